@@ -1,0 +1,10 @@
+pub mod Causes
+pub mod Ends
+pub mod Faults
+pub mod Filled
+pub mod Holds
+pub mod Inserted
+pub mod Last
+pub mod Least
+pub mod OneEnd
+pub mod SoFar

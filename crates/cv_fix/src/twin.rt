@@ -1,0 +1,47 @@
+//! Items.
+ghost use Rattle.std.specs.Prelude.{◌≡◌, true, IfOk};
+
+use cv_base::Memory;
+use std::alloc::Global;
+
+/// A value that can be made twice, and whose `==` says whether contracts see one value.
+pub trait Twin: Eq + Sized {
+    /// The same value again. `Memory` where there is none left.
+    fn twin(&self, alloc: Global) -> Result<Self, Memory>
+        ensures { IfOk result (λ x. x ≡ self.now) };
+
+    /// Two values that `==` calls equal are one. That a value is equal to itself is a law of `Eq`.
+    ghost exact: { (x y : Self) → Self.eq x y ≡ true → x ≡ y };
+}
+
+impl Twin for u32 {
+    ghost use Rattle.cv_fix.specs.Same.{same_number};
+
+    ghost exact = { same_number };
+
+    fn twin(&self, _: Global) -> Result<u32, Memory> {
+        Ok(*self)
+    }
+}
+
+impl Twin for u64 {
+    ghost use Rattle.cv_fix.specs.Same.{same_number};
+
+    ghost exact = { same_number };
+
+    fn twin(&self, _: Global) -> Result<u64, Memory> {
+        Ok(*self)
+    }
+}
+
+impl<A: Twin + Drop, B: Twin + Drop> Twin for (A, B) {
+    ghost use Rattle.cv_fix.specs.Same.{same_pair};
+
+    ghost exact = { same_pair A.Twin.exact B.Twin.exact };
+
+    fn twin(&self, alloc: Global) -> Result<(A, B), Memory> {
+        let first = self.0.twin(alloc)?;
+        let second = self.1.twin(alloc)?;
+        Ok((first, second))
+    }
+}
