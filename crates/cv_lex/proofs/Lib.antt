@@ -1,0 +1,4 @@
+pub mod Along
+pub mod Fronts
+pub mod Longest
+pub mod Runs

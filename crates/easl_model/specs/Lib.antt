@@ -1,0 +1,5 @@
+pub mod Conditions
+pub mod Form
+pub mod Limits
+pub mod Statements
+pub mod Tokens

@@ -1,0 +1,106 @@
+use crate::form::{ClassForm, Method};
+use crate::place::Name;
+use sqlite_items::Items;
+use std::marker::Model;
+
+/// A checked specification, which contracts see as its checked form.
+#[derive(Debug, Drop)]
+pub struct CheckedSpec {
+    classes: Items<ClassForm>,
+    methods: Items<Method>,
+}
+
+impl Model for CheckedSpec {
+    ghost use Rattle.easl_model.specs.Form.{Form, IsInRange};
+    ghost use Rattle.easl_model.specs.contracts.form.Test as test;
+    ghost use Rattle.std.specs.Coded.{codes};
+
+    ghost Value = { Form };
+
+    ghost coded = { Prim.hlevel (codes, test.the_row.coded) };
+
+    ghost view = { λ s. record { classes = s.classes; methods = s.methods } };
+
+    ghost invariant = { λ s. IsInRange (record { classes = s.classes; methods = s.methods }) };
+}
+
+impl CheckedSpec {
+    ghost use Rattle.std.specs.Prelude.{◌≡◌, ◌<◌, length, slice_index, slice_get};
+    ghost use Rattle.std.specs.Option.{option_map};
+    ghost use Rattle.easl_model.specs.Form.{Form, IsInRange, MethodInRange, fields_of, constructor_of, field_names_of};
+
+    /// A specification of these parts, the classes and the methods by number. It takes no memory.
+    pub fn new(classes: Vec<ClassForm>, methods: Vec<Method>) -> CheckedSpec
+        requires { IsInRange (record { classes = classes.items; methods = methods.items }) }
+        ensures { result ≡ record { classes = classes.items; methods = methods.items } }
+    {
+        CheckedSpec {
+            classes: Items::from_vec(classes),
+            methods: Items::from_vec(methods),
+        }
+    }
+
+    pub fn class_count(&self) -> u32
+        ensures count { result ≡ length self.now.classes }
+        ensures in_range { IsInRange self.now }
+    {
+        self.classes.len() as u32
+    }
+
+    pub fn method_count(&self) -> u32
+        ensures { result ≡ length self.now.methods }
+    {
+        self.methods.len() as u32
+    }
+
+    pub fn class_name(&self, class: u32) -> &Name
+        requires { class < length self.now.classes }
+        ensures { option_map (λ c. c.name) (slice_get self.now.classes class) ≡ Some result.now }
+    {
+        &self.classes.as_slice()[class as usize].name
+    }
+
+    pub fn field_count(&self, class: u32) -> u32
+        requires { class < length self.now.classes }
+        ensures { result ≡ length (fields_of self.now class) }
+    {
+        self.classes.as_slice()[class as usize].field_classes.len() as u32
+    }
+
+    pub fn field_class(&self, class: u32, field: u32) -> u32
+        requires class { class < length self.now.classes }
+        requires field { field < length (fields_of self.now class) }
+        ensures { result ≡ slice_index (fields_of self.now class) field }
+    {
+        self.classes.as_slice()[class as usize]
+            .field_classes
+            .as_slice()[field as usize]
+    }
+
+    pub fn field_name(&self, class: u32, field: u32) -> &Name
+        requires class { class < length self.now.classes }
+        requires field { field < length (fields_of self.now class) }
+        ensures { slice_get (field_names_of self.now class) field ≡ Some result.now }
+    {
+        &self.classes.as_slice()[class as usize]
+            .field_names
+            .as_slice()[field as usize]
+    }
+
+    /// The number of the class's constructor.
+    pub fn constructor(&self, class: u32) -> u32
+        requires { class < length self.now.classes }
+        ensures number { result ≡ constructor_of self.now class }
+        ensures in_range { result < length self.now.methods }
+    {
+        self.classes.as_slice()[class as usize].constructor
+    }
+
+    pub fn method(&self, method: u32) -> &Method
+        requires { method < length self.now.methods }
+        ensures value { slice_get self.now.methods method ≡ Some result.now }
+        ensures in_range { MethodInRange (length self.now.classes) result.now }
+    {
+        &self.methods.as_slice()[method as usize]
+    }
+}
