@@ -1,0 +1,8 @@
+use Rattle.std.proofs.Common.{◌≤◌, length}
+use Rattle.cv_read.proofs.brackets.nesting.Given as goal
+
+abbrev pub invariant-each : goal.invariant-each
+invariant-each l = l.level ≤ 64
+
+abbrev pub decreases-each : goal.decreases-each
+decreases-each l = length l.rest

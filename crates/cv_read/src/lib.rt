@@ -1,0 +1,11 @@
+//! What the readers of both languages have in common: they take tokens from the front of a list, and where
+//! they stop they say how many tokens are left.
+#![tactic(auto)]
+
+mod brackets;
+mod fault;
+mod taking;
+
+pub use brackets::{MOST_OPEN, nesting};
+pub use fault::ReadFault;
+pub use taking::{Source, front, is_literal, key, literal, mark, name, next};
