@@ -1,0 +1,4 @@
+pub mod Body
+pub mod Clause
+pub mod Executing
+pub mod Heap

@@ -1,0 +1,13 @@
+//! The heap of objects, and what requires clauses and bodies of a specification do on it.
+#![tactic(auto)]
+
+mod body;
+mod clause;
+mod heap;
+mod object;
+mod paths;
+#[cfg(test)]
+mod tests;
+
+pub use body::Done;
+pub use heap::Heap;
