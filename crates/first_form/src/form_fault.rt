@@ -1,0 +1,32 @@
+use cv_lex::TextFault;
+use std::alloc::{AllocError, AllocFailed};
+
+/// Why a text is not taken.
+#[derive(Clone, Copy, Debug, PartialEq, Eq)]
+pub enum FormFault {
+    /// It is not of the form that is built so far.
+    NotBuilt,
+    /// Memory was wanted and not found.
+    Memory,
+}
+
+impl From<AllocError> for FormFault {
+    fn from(_: AllocError) -> FormFault {
+        FormFault::Memory
+    }
+}
+
+impl<T: Drop> From<AllocFailed<T>> for FormFault {
+    fn from(_: AllocFailed<T>) -> FormFault {
+        FormFault::Memory
+    }
+}
+
+impl From<TextFault> for FormFault {
+    fn from(fault: TextFault) -> FormFault {
+        match fault {
+            TextFault::Memory => FormFault::Memory,
+            _ => FormFault::NotBuilt,
+        }
+    }
+}

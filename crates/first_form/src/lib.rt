@@ -1,0 +1,13 @@
+//! The specifications that are built so far: reads them and gives their checked form.
+#![tactic(auto)]
+
+mod form_fault;
+mod methods;
+mod names;
+mod shape;
+mod specification;
+mod values;
+
+pub use form_fault::FormFault;
+pub use names::is_same;
+pub use specification::specification as read_specification;

@@ -1,0 +1,372 @@
+//! The methods of a class, with numbers for their names.
+ghost use Rattle.std.specs.Prelude.{◌≡◌, ◌+◌, ◌<◌, ◌≤◌, ◌∷◌, ◌++◌, [], length, All, IfOk, IfSome, OnOk};
+ghost use Rattle.easl_model.specs.Form.{ActInRange, SourceInRange, MethodInRange};
+
+use crate::form_fault::FormFault;
+use crate::names::{class_number, constructor_of, copied, field_of, is_same, param_of, sort_class};
+use crate::values::{Scope, reach, source};
+use easl_model::{
+    Act, Class, Code, Cond, Member, Method, Name, Param, Path, Reach, Source, Spec, Step, Test,
+    Value,
+};
+use sqlite_items::Items;
+use std::alloc::Global;
+
+const MOST_METHODS: usize = 64;
+
+const MOST_PARAMETERS: usize = 4;
+
+/// Appends the constructor of the class, which has the number, and its methods.
+pub(crate) fn methods_of(
+    alloc: Global,
+    spec: &Spec,
+    number: u32,
+    class: &Class,
+    methods: &mut Vec<Method>,
+) -> Result<(), FormFault>
+    requires number { number < length spec.now.classes }
+    requires before { All (MethodInRange (length spec.now.classes)) methods.old.items }
+    ensures in_range { OnOk result (All (MethodInRange (length spec.now.classes)) methods.new.items) }
+    ensures some { OnOk result (length methods.old.items < length methods.new.items) }
+    ensures few { OnOk result (length methods.new.items ≤ length methods.old.items + 65) }
+{
+    let constructor = constructor_form(alloc, spec, number, class)?;
+    add(methods, constructor)?;
+    let most = methods.len() + MOST_METHODS;
+    'each: for member in class.members.as_slice() {
+        add_member(alloc, spec, number, member, most, methods)?;
+    }
+    Ok(())
+}
+
+fn add(methods: &mut Vec<Method>, method: Method) -> Result<(), FormFault>
+    ensures { OnOk result (methods.new.items ≡ methods.old.items ++ method ∷ []) }
+{
+    methods.push(method)?;
+    Ok(())
+}
+
+/// Appends the member where it is a method, unless there are the most already.
+fn add_member(
+    alloc: Global,
+    spec: &Spec,
+    number: u32,
+    member: &Member,
+    most: usize,
+    methods: &mut Vec<Method>,
+) -> Result<(), FormFault>
+    requires number { number < length spec.now.classes }
+    requires before { All (MethodInRange (length spec.now.classes)) methods.old.items }
+    requires room { length methods.old.items ≤ most }
+    ensures in_range { OnOk result (All (MethodInRange (length spec.now.classes)) methods.new.items) }
+    ensures more { OnOk result (length methods.old.items ≤ length methods.new.items) }
+    ensures few { OnOk result (length methods.new.items ≤ most) }
+{
+    let Member::Method(code) = member else {
+        return Ok(());
+    };
+    if methods.len() == most {
+        return Err(FormFault::NotBuilt);
+    }
+    let method = method(alloc, spec, number, code)?;
+    add(methods, method)?;
+    Ok(())
+}
+
+/// The class's constructor.
+fn constructor_form(
+    alloc: Global,
+    spec: &Spec,
+    number: u32,
+    class: &Class,
+) -> Result<Method, FormFault>
+    requires { number < length spec.now.classes }
+    ensures { IfOk result (MethodInRange (length spec.now.classes)) }
+{
+    match constructor_of(spec, number) {
+        Some(code) => constructor(alloc, spec, number, class, code),
+        None => implicit_constructor(alloc, spec, number, class),
+    }
+}
+
+/// The constructor of a class without fields, which does nothing.
+fn implicit_constructor(
+    alloc: Global,
+    spec: &Spec,
+    number: u32,
+    class: &Class,
+) -> Result<Method, FormFault>
+    requires { number < length spec.now.classes }
+    ensures { IfOk result (MethodInRange (length spec.now.classes)) }
+{
+    Ok(Method {
+        class: number,
+        name: copied(alloc, &class.name.name)?,
+        constructor: true,
+        params: Items::new(alloc),
+        names: Items::new(alloc),
+        result: Some(number),
+        clauses: Items::new(alloc),
+        body: Items::new(alloc),
+        value: None,
+    })
+}
+
+/// A constructor that is written: it has its class's name, and assigns each field once.
+fn constructor(
+    alloc: Global,
+    spec: &Spec,
+    number: u32,
+    class: &Class,
+    code: &Code,
+) -> Result<Method, FormFault>
+    requires { number < length spec.now.classes }
+    ensures { IfOk result (MethodInRange (length spec.now.classes)) }
+{
+    let scope = Scope {
+        spec,
+        class: number,
+        params: code.params.as_slice(),
+    };
+    if !is_same(&code.name.name, &class.name.name)
+        || scope.params.len() > MOST_PARAMETERS
+        || !sets_each_field_once(class, code.body.as_slice())
+    {
+        return Err(FormFault::NotBuilt);
+    }
+    Ok(Method {
+        class: number,
+        name: copied(alloc, &class.name.name)?,
+        constructor: true,
+        params: param_classes(alloc, scope)?,
+        names: param_names(alloc, scope.params)?,
+        result: Some(number),
+        clauses: Items::new(alloc),
+        body: fields_set(alloc, scope, code.body.as_slice())?,
+        value: None,
+    })
+}
+
+/// Whether there are as many steps as fields, and no two steps assign one name.
+fn sets_each_field_once(class: &Class, steps: &[Step]) -> bool {
+    let members = class.members.as_slice();
+    let fields = members
+        .iter()
+        .filter(|member| matches!(member, Member::Field(_)))
+        .count();
+    steps.len() == fields
+        && steps.iter().enumerate().all(|(at, step)| {
+            steps.iter().position(|other| sets_the_same(other, step)) == Some(at)
+        })
+}
+
+fn sets_the_same(left: &Step, right: &Step) -> bool {
+    match (set_name(left), set_name(right)) {
+        (Some(left), Some(right)) => is_same(left, right),
+        _ => false,
+    }
+}
+
+/// The name that a step assigns, where it assigns a plain name.
+fn set_name(step: &Step) -> Option<&Name> {
+    match step {
+        Step::Assign(path, _) => plain_name(path),
+        Step::Declare(_, _, _) => None,
+    }
+}
+
+fn plain_name(path: &Path) -> Option<&Name> {
+    match &path.head {
+        Some(word) if path.fields.is_empty() => Some(&word.name),
+        _ => None,
+    }
+}
+
+/// The steps of a constructor.
+fn fields_set(alloc: Global, scope: Scope<'_>, steps: &[Step]) -> Result<Items<Act>, FormFault>
+    ensures { IfOk result (All (ActInRange (length scope.entry.spec.now.classes))) }
+{
+    let mut acts = Items::new(alloc);
+    'each: for step in steps {
+        acts.push(field_set(alloc, scope, step)?)?;
+    }
+    Ok(acts)
+}
+
+/// A step of a constructor: a field of `this`, named alone, takes a parameter's path or a new object without fields.
+fn field_set(alloc: Global, scope: Scope<'_>, step: &Step) -> Result<Act, FormFault>
+    ensures { IfOk result (ActInRange (length scope.entry.spec.now.classes)) }
+{
+    let (Step::Assign(_, value), Some(name)) = (step, set_name(step)) else {
+        return Err(FormFault::NotBuilt);
+    };
+    let Some((position, wanted)) = own_field(scope, name) else {
+        return Err(FormFault::NotBuilt);
+    };
+    if !may_begin(scope, value) {
+        return Err(FormFault::NotBuilt);
+    }
+    let (source, class) = source(alloc, scope, value)?;
+    if class != wanted {
+        return Err(FormFault::NotBuilt);
+    }
+    let this = Reach {
+        slot: 0,
+        fields: Items::new(alloc),
+    };
+    Ok(Act::Write(this, position, source))
+}
+
+/// The position and the class of the field that a plain name names, where no parameter has the name.
+fn own_field(scope: Scope<'_>, name: &Name) -> Option<(u32, u32)> {
+    if param_of(scope.params, name).is_some() {
+        return None;
+    }
+    field_of(scope.spec, scope.class, name)
+}
+
+/// Whether a field may begin with the value: a path from a parameter, or a new object without fields.
+fn may_begin(scope: Scope<'_>, value: &Value) -> bool {
+    match value {
+        Value::Path(path) => match &path.head {
+            Some(word) => param_of(scope.params, &word.name).is_some(),
+            None => false,
+        },
+        Value::New(new) => {
+            match class_number(scope.spec, &new.class.name) {
+                Some(class) => constructor_of(scope.spec, class).is_none(),
+                None => false,
+            }
+        }
+    }
+}
+
+/// A method.
+fn method(alloc: Global, spec: &Spec, number: u32, code: &Code) -> Result<Method, FormFault>
+    requires { number < length spec.now.classes }
+    ensures { IfOk result (MethodInRange (length spec.now.classes)) }
+{
+    let scope = Scope {
+        spec,
+        class: number,
+        params: code.params.as_slice(),
+    };
+    if scope.params.len() > MOST_PARAMETERS {
+        return Err(FormFault::NotBuilt);
+    }
+    let Some(result) = sort_class(spec, &code.result) else {
+        return Err(FormFault::NotBuilt);
+    };
+    Ok(Method {
+        class: number,
+        name: copied(alloc, &code.name.name)?,
+        constructor: false,
+        params: param_classes(alloc, scope)?,
+        names: param_names(alloc, scope.params)?,
+        result,
+        clauses: clauses(alloc, scope, code.clauses.as_slice())?,
+        body: assignments(alloc, scope, code.body.as_slice())?,
+        value: returned(alloc, scope, &code.value, result)?,
+    })
+}
+
+/// The classes of the parameters.
+fn param_classes(alloc: Global, scope: Scope<'_>) -> Result<Items<Option<u32>>, FormFault>
+    ensures count { IfOk result (λ found. length found ≡ length scope.entry.params.now) }
+    ensures in_range { IfOk result (All (λ p. IfSome p (λ n. n < length scope.entry.spec.now.classes))) }
+{
+    let mut found = Items::new(alloc);
+    'each: for param in scope.params {
+        match sort_class(scope.spec, &param.sort) {
+            Some(class) => found.push(class)?,
+            None => return Err(FormFault::NotBuilt),
+        }
+    }
+    Ok(found)
+}
+
+fn param_names(alloc: Global, params: &[Param]) -> Result<Items<Name>, FormFault>
+    ensures { IfOk result (λ found. length found ≡ length params.now) }
+{
+    let mut found = Items::new(alloc);
+    'each: for param in params {
+        found.push(copied(alloc, &param.name.name)?)?;
+    }
+    Ok(found)
+}
+
+fn clauses(alloc: Global, scope: Scope<'_>, conds: &[Cond]) -> Result<Items<Test>, FormFault> {
+    let mut tests = Items::new(alloc);
+    for cond in conds {
+        tests.push(clause(alloc, scope, cond)?)?;
+    }
+    Ok(tests)
+}
+
+/// A clause: two paths of one class are compared.
+fn clause(alloc: Global, scope: Scope<'_>, cond: &Cond) -> Result<Test, FormFault> {
+    let Cond::Same(left, right) = cond else {
+        return Err(FormFault::NotBuilt);
+    };
+    let (left, class) = reach(alloc, scope, left)?;
+    let (right, other) = reach(alloc, scope, right)?;
+    if class == other {
+        Ok(Test::Same(left, right))
+    } else {
+        Err(FormFault::NotBuilt)
+    }
+}
+
+/// The steps of a method.
+fn assignments(alloc: Global, scope: Scope<'_>, steps: &[Step]) -> Result<Items<Act>, FormFault>
+    ensures { IfOk result (All (ActInRange (length scope.entry.spec.now.classes))) }
+{
+    let mut acts = Items::new(alloc);
+    'each: for step in steps {
+        acts.push(assignment(alloc, scope, step)?)?;
+    }
+    Ok(acts)
+}
+
+/// A step of a method: a field takes a value of its class.
+fn assignment(alloc: Global, scope: Scope<'_>, step: &Step) -> Result<Act, FormFault>
+    ensures { IfOk result (ActInRange (length scope.entry.spec.now.classes)) }
+{
+    let Step::Assign(path, value) = step else {
+        return Err(FormFault::NotBuilt);
+    };
+    let (target, wanted) = reach(alloc, scope, path)?;
+    let Reach { slot, mut fields } = target;
+    let Some(field) = fields.pop() else {
+        return Err(FormFault::NotBuilt);
+    };
+    let (source, class) = source(alloc, scope, value)?;
+    if class == wanted {
+        Ok(Act::Write(Reach { slot, fields }, field, source))
+    } else {
+        Err(FormFault::NotBuilt)
+    }
+}
+
+/// The value of a `return`, which stands exactly where the result is of a class, and is of this class.
+fn returned(
+    alloc: Global,
+    scope: Scope<'_>,
+    value: &Option<Value>,
+    result_class: Option<u32>,
+) -> Result<Option<Source>, FormFault>
+    ensures { IfOk result (λ v. IfSome v (SourceInRange (length scope.entry.spec.now.classes))) }
+{
+    match (value, result_class) {
+        (None, None) => Ok(None),
+        (Some(value), Some(wanted)) => {
+            let (source, class) = source(alloc, scope, value)?;
+            if class == wanted {
+                Ok(Some(source))
+            } else {
+                Err(FormFault::NotBuilt)
+            }
+        }
+        _ => Err(FormFault::NotBuilt),
+    }
+}

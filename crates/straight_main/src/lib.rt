@@ -1,0 +1,11 @@
+//! The clients that are built so far, a `main` of straight code: reads them, checks them against a specification,
+//! and executes them on the heap.
+#![tactic(auto)]
+
+mod calls;
+mod reader;
+mod running;
+mod tree;
+
+pub use calls::{MadeCall, calls_of};
+pub use running::{Failure, run};
