@@ -1,0 +1,13 @@
+use Rattle.canvas_cli.proofs.Loads.{answered}
+use Rattle.canvas_cli.proofs.canvas.certify.Goals as goal
+
+pub returns-in-Ok : goal.returns-in-Ok
+returns-in-Ok g c =
+    let held = g.S.Shelf.held in
+    let faults = g.S.Shelf.faults in
+    let old = c.args.shelf.now in
+    let mid = c.load.new.shelf in
+    let client = c.args.client.now in
+    answered (held old) (held mid) (faults old) (faults mid) (faults c.certify_client.new.shelf) c.args.spec.now client
+    c.in-Ok.text.items c.certify_client.result c.in-Ok.ensures.text (c.load.ensures.held client) (c.load.ensures.later client)
+    c.certify_client.ensures.answers

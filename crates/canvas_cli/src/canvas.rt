@@ -1,0 +1,152 @@
+//! The top call.
+ghost use Rattle.std.specs.Prelude.{◌≡◌, ◌≢◌, ◌≤◌, ℕ, List, length, All, MatchOption};
+ghost use Rattle.cv_base.specs.Causes.{Rose};
+ghost use Rattle.canvas_cli.specs.Answers.{IsCertify, IsCommand, IsLoaded, ClientAnswers, Certifies, IsAllowed, WritesAllowed, CouldNotLoad, Decides};
+ghost use Rattle.straight_main.specs.Calls.{CallFits};
+
+use crate::answer::{Answer, Role, alarm_lines};
+use crate::loading::{NoText, load};
+use crate::writing::write;
+use cv_base::{Memory, Shelf, Sink, Status};
+use easl_model::CheckedSpec;
+use first_form::{FormFault, read_specification};
+use std::alloc::Global;
+use straight_main::{MadeCall, calls_of, run};
+
+/// Runs the program on the words of its command line, without the program's name: loads the texts that the words
+/// name from the shelf, writes the answer to the sink, and gives the status.
+///
+/// `Usage` comes exactly where the words are no command. `ReadFault` comes only where the count of faults of a
+/// named text's name rose, the texts named before it being loaded. `WriteFault` comes only where the sink's count
+/// rose; what was taken is then a proper prefix of an allowed answer's text.
+pub fn canvas<S: Shelf, W: Sink>(
+    alloc: Global,
+    words: &[String],
+    shelf: &mut S,
+    out: &mut W,
+) -> Status
+    ensures usage { result ≡ Status.Usage → IsCommand words.now → ⊥ }
+    ensures known { result ≢ Status.Usage → result ≢ Status.WriteFault → IsCommand words.now }
+    ensures read { result ≡ Status.ReadFault →
+        CouldNotLoad (S.held shelf.old) (λ name. Rose (S.faults shelf.old name) (S.faults shelf.new name)) words.now }
+    ensures write { result ≡ Status.WriteFault → Rose (W.faults out.old) (W.faults out.new) }
+    ensures whole { WritesAllowed (S.held shelf.old) (λ name. Rose (S.faults shelf.old name) (S.faults shelf.new name)) words.now
+        (W.taken out.old) (W.taken out.new) (Rose (W.faults out.old) (W.faults out.new)) result }
+{
+    let answer = answer(alloc, words, shelf);
+    write(out, &answer)
+}
+
+/// The answer to the words.
+fn answer<S: Shelf>(alloc: Global, words: &[String], shelf: &mut S) -> Answer
+    ensures { IsAllowed (S.held shelf.old) (λ name. Rose (S.faults shelf.old name) (S.faults shelf.new name)) words.now result }
+{
+    match certify_words(words) {
+        Some((spec, client)) => certify(alloc, shelf, spec, client),
+        None => Answer::Usage,
+    }
+}
+
+/// The names that stand behind the word `certify`.
+fn certify_words(words: &[String]) -> Option<(&str, &str)>
+    ensures { MatchOption result (IsCommand words.now → ⊥) (λ names. IsCertify words.now names.0.now names.1.now) }
+{
+    match words {
+        [command, spec, client] => {
+            if command.as_str() == "certify" {
+                Some((spec.as_str(), client.as_str()))
+            } else {
+                None
+            }
+        }
+        _ => None,
+    }
+}
+
+/// Loads both texts, and certifies the client.
+fn certify<S: Shelf>(alloc: Global, shelf: &mut S, spec: &str, client: &str) -> Answer
+    ensures { Certifies (S.held shelf.old) (λ name. Rose (S.faults shelf.old name) (S.faults shelf.new name)) spec.now client.now result }
+{
+    match load(alloc, shelf, spec, Role::Specification) {
+        Ok(text) => certify_client(alloc, shelf, text.as_slice(), client),
+        Err(NoText::Failed) => Answer::ReadFault(Role::Specification),
+        Err(NoText::TooLong) => Answer::NotBuilt(Role::Specification),
+        Err(NoText::Memory) => Answer::Memory,
+    }
+}
+
+/// Loads the client, and certifies it against the text of a specification.
+fn certify_client<S: Shelf>(
+    alloc: Global,
+    shelf: &mut S,
+    specification: &[u8],
+    client: &str,
+) -> Answer
+    requires { length specification.now ≤ 65536 }
+    ensures answers { ClientAnswers (S.held shelf.old client.now) (Rose (S.faults shelf.old client.now) (S.faults shelf.new client.now)) result }
+    ensures later { (other : List ℕ) → S.faults shelf.old other ≤ S.faults shelf.new other }
+{
+    match load(alloc, shelf, client, Role::Client) {
+        Ok(text) => decide(alloc, specification, text.as_slice()),
+        Err(NoText::Failed) => Answer::ReadFault(Role::Client),
+        Err(NoText::TooLong) => Answer::NotBuilt(Role::Client),
+        Err(NoText::Memory) => Answer::Memory,
+    }
+}
+
+/// The answer by the two texts.
+fn decide(alloc: Global, specification_text: &[u8], client_text: &[u8]) -> Answer
+    requires specification { length specification_text.now ≤ 65536 }
+    requires client { length client_text.now ≤ 1048576 }
+    ensures { Decides result }
+{
+    let spec = match read_specification(alloc, specification_text) {
+        Ok(spec) => spec,
+        Err(fault) => return refusal(Role::Specification, fault),
+    };
+    match calls_of(alloc, &spec, client_text) {
+        Ok(calls) => verdict(alloc, &spec, calls.as_slice()),
+        Err(fault) => refusal(Role::Client, fault),
+    }
+}
+
+/// The answer where the text of a role is not taken.
+fn refusal(role: Role, fault: FormFault) -> Answer
+    ensures { Decides result }
+{
+    match fault {
+        FormFault::NotBuilt => Answer::NotBuilt(role),
+        FormFault::Memory => Answer::Memory,
+    }
+}
+
+/// Executes the calls, and answers whether a clause is false.
+fn verdict(alloc: Global, spec: &CheckedSpec, calls: &[MadeCall]) -> Answer
+    requires { All (CallFits spec.now) calls.now }
+    ensures { Decides result }
+{
+    match run(alloc, spec, calls) {
+        Ok(None) => Answer::Certified,
+        Ok(Some(failure)) => alarm(alloc, spec, &calls[failure.call], failure.clause),
+        Err(Memory) => Answer::Memory,
+    }
+}
+
+/// The alarm at a call whose clause is false.
+fn alarm(alloc: Global, spec: &CheckedSpec, call: &MadeCall, clause: u32) -> Answer
+    requires { CallFits spec.now call.now }
+    ensures { Decides result }
+{
+    let method = spec.method(call.method);
+    let class = spec.class_name(method.class);
+    match alarm_lines(
+        alloc,
+        call.place,
+        class.0.as_str(),
+        method.name.0.as_str(),
+        clause,
+    ) {
+        Ok(text) => Answer::Alarm(text),
+        Err(Memory) => Answer::Memory,
+    }
+}
