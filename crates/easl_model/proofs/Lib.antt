@@ -1,4 +1,5 @@
 pub mod Cuts
+pub mod FormsInRange
 pub mod Pieces
 pub mod Places
 pub mod Words

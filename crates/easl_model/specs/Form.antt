@@ -49,10 +49,3 @@ pub record MethodInRange (classes : ℕ) (m : Method) : Type 0 where
   pub result : IfSome m.result (λ n. n < classes)
   pub body : All (ActInRange classes) m.body
   pub value : IfSome m.value (SourceInRange classes)
-
--- each number of a class or a method names one that is there, and the stated limits are kept
-pub record IsInRange (form : Form) : Type 0 where
-  pub few_classes : length form.classes ≤ 64
-  pub few_methods : length form.methods ≤ 4160
-  pub classes : All (ClassInRange (length form.classes) (length form.methods)) form.classes
-  pub methods : All (MethodInRange (length form.classes)) form.methods

@@ -58,7 +58,3 @@ pub record MethodKeepsLimits (form : Form) (m : Method) : Type 0 where
   pub body : All ActHasFewArguments m.body
   pub value : IfSome m.value HasFewArguments
   pub in_place : count_in_place form m ≤ 1024
-
--- each method keeps the limits
-abbrev pub KeepsLimits : Form → Type 0
-KeepsLimits form = All (MethodKeepsLimits form) form.methods

@@ -11,7 +11,8 @@ pub struct CheckedSpec {
 }
 
 impl Model for CheckedSpec {
-    ghost use Rattle.easl_model.specs.Form.{Form, IsInRange};
+    ghost use Rattle.easl_model.specs.Checked.{IsInRange};
+    ghost use Rattle.easl_model.specs.Form.{Form};
     ghost use Rattle.easl_model.specs.contracts.form.Test as test;
     ghost use Rattle.std.specs.Coded.{codes};
 
@@ -25,9 +26,11 @@ impl Model for CheckedSpec {
 }
 
 impl CheckedSpec {
-    ghost use Rattle.std.specs.Prelude.{◌≡◌, ◌<◌, length, slice_index, slice_get};
+    ghost use Rattle.std.specs.Prelude.{◌≡◌, ◌<◌, ◌≤◌, length, slice_index, slice_get};
     ghost use Rattle.std.specs.Option.{option_map};
-    ghost use Rattle.easl_model.specs.Form.{Form, IsInRange, MethodInRange, fields_of, constructor_of, field_names_of};
+    ghost use Rattle.easl_model.specs.Checked.{IsInRange};
+    ghost use Rattle.easl_model.specs.Form.{Form, MethodInRange, fields_of, constructor_of, field_names_of};
+    ghost use Rattle.easl_model.specs.Limits.{MethodKeepsLimits};
 
     /// A specification of these parts, the classes and the methods by number. It takes no memory.
     pub fn new(classes: Vec<ClassForm>, methods: Vec<Method>) -> CheckedSpec
@@ -62,7 +65,8 @@ impl CheckedSpec {
 
     pub fn field_count(&self, class: u32) -> u32
         requires { class < length self.now.classes }
-        ensures { result ≡ length (fields_of self.now class) }
+        ensures count { result ≡ length (fields_of self.now class) }
+        ensures few { result ≤ 16 }
     {
         self.classes.as_slice()[class as usize].field_classes.len() as u32
     }
@@ -72,9 +76,8 @@ impl CheckedSpec {
         requires field { field < length (fields_of self.now class) }
         ensures { result ≡ slice_index (fields_of self.now class) field }
     {
-        self.classes.as_slice()[class as usize]
-            .field_classes
-            .as_slice()[field as usize]
+        let classes = &self.classes.as_slice()[class as usize].field_classes;
+        classes.as_slice()[field as usize]
     }
 
     pub fn field_name(&self, class: u32, field: u32) -> &Name
@@ -100,6 +103,7 @@ impl CheckedSpec {
         requires { method < length self.now.methods }
         ensures value { slice_get self.now.methods method ≡ Some result.now }
         ensures in_range { MethodInRange (length self.now.classes) result.now }
+        ensures limits { MethodKeepsLimits self.now result.now }
     {
         &self.methods.as_slice()[method as usize]
     }

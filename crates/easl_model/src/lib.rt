@@ -3,12 +3,14 @@
 
 mod checked;
 mod form;
+mod laws;
 mod place;
 mod token;
 mod tree;
 
 pub use checked::CheckedSpec;
 pub use form::{Act, ClassForm, Method, Reach, Source, Test};
+pub use laws::forms_are_in_range;
 pub use place::{Name, Place};
 pub use token::{Key, Kind, Mark, Token, Tokens};
 pub use tree::{
