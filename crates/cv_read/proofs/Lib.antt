@@ -1,0 +1,10 @@
+pub mod Along
+pub mod Depth
+pub mod Laws
+pub mod Lefts
+pub mod Levels
+pub mod Repeats
+pub mod Tested
+pub mod Unclosed
+pub mod Whole
+pub mod Words

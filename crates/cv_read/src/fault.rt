@@ -1,4 +1,6 @@
-ghost use Rattle.std.specs.Prelude.{◌<◌, ◌≤◌, length};
+ghost use Rattle.std.specs.Prelude.{◌≡◌};
+ghost use Rattle.cv_read.specs.Faults.{placed};
+ghost use Rattle.cv_read.specs.Faults as faults;
 ghost use Rattle.cv_read.specs.declared.fault.ReadFault.TheVariants.{Memory};
 
 use cv_lex::{TextFault, Which};
@@ -28,7 +30,9 @@ impl From<AllocError> for ReadFault {
 
 impl ReadFault {
     /// The fault of the text that has these tokens.
-    pub fn of_text(self, tokens: &Tokens) -> TextFault {
+    pub fn of_text(self, tokens: &Tokens) -> TextFault
+        ensures { result ≡ placed tokens.now self }
+    {
         match self {
             ReadFault::Nesting(left) => {
                 TextFault::Limit(Which::Nesting, place_where(tokens, left))
@@ -40,13 +44,12 @@ impl ReadFault {
 }
 
 /// The place of the token where so many tokens are left, or of the text's end.
-fn place_where(tokens: &Tokens, left: usize) -> Place {
+fn place_where(tokens: &Tokens, left: usize) -> Place
+    ensures { result ≡ faults.place_where tokens.now left }
+{
     let list = tokens.list.as_slice();
-    match list.len().checked_sub(left) {
-        Some(at) => match list.get(at) {
-            Some(token) => token.place,
-            None => tokens.end,
-        },
+    match list.get(list.len().saturating_sub(left)) {
+        Some(token) => token.place,
         None => tokens.end,
     }
 }

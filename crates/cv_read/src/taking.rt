@@ -1,7 +1,9 @@
-ghost use Rattle.std.specs.Prelude.{◌≡◌, ◌+◌, ◌∷◌, ◌<◌, [], length, MatchOption, IfOk};
+ghost use Rattle.std.specs.Prelude.{◌≡◌, ◌+◌, ◌∷◌, ◌<◌, [], ◌&&◌, length, chars, string_bytes, MatchOption, IfOk, IfSome, IsTrue, nat_le};
+ghost use Rattle.easl_model.specs.Lexemes.{bytes_of, is_literal, word_of};
+ghost use Rattle.cv_read.specs.Read.{Gives, FindsFirst, FirstIs, begins, is_mark, is_key, is_name, nothing_of, place_of, mark_at, mark_place_at, key_at, name_at, literal_at};
 
 use crate::fault::ReadFault;
-use easl_model::{Key, Kind, Mark, Name, Token, Word};
+use easl_model::{Key, Kind, Mark, Name, Place, Token, Word};
 use std::alloc::{AllocError, Global};
 
 /// The text that the tokens were cut from, and where the tree's memory comes from.
@@ -23,7 +25,8 @@ pub fn next(tokens: &[Token]) -> Option<(Token, &[Token])>
 
 /// The kind of the first token, and the tokens after it.
 pub fn front(tokens: &[Token]) -> Option<(Kind, &[Token])>
-    ensures { MatchOption result (tokens.now ≡ []) (λ x. length tokens.now ≡ length x.1.now + 1) }
+    ensures kind { MatchOption result (tokens.now ≡ []) (λ x. FirstIs x.0 x.1.now tokens.now) }
+    ensures shorter { IfSome result (λ x. length tokens.now ≡ length x.1.now + 1) }
 {
     match next(tokens) {
         Some((token, rest)) => Some((token.kind, rest)),
@@ -31,35 +34,119 @@ pub fn front(tokens: &[Token]) -> Option<(Kind, &[Token])>
     }
 }
 
+/// Whether a name stands first.
+pub fn begins_name(tokens: &[Token]) -> bool
+    ensures { result ≡ begins is_name tokens.now }
+{
+    match next(tokens) {
+        Some((token, _)) => is_name(token.kind),
+        None => false,
+    }
+}
+
+/// Whether a literal stands first.
+pub fn begins_literal(tokens: &[Token]) -> bool
+    ensures { result ≡ begins is_literal tokens.now }
+{
+    match next(tokens) {
+        Some((token, _)) => is_literal(token.kind),
+        None => false,
+    }
+}
+
+/// Whether this mark stands first.
+pub fn begins_mark(wanted: Mark, tokens: &[Token]) -> bool
+    ensures { result ≡ begins (is_mark wanted) tokens.now }
+{
+    match next(tokens) {
+        Some((token, _)) => is_mark(wanted, token.kind),
+        None => false,
+    }
+}
+
+/// Whether this keyword stands first.
+pub fn begins_key(wanted: Key, tokens: &[Token]) -> bool
+    ensures { result ≡ begins (is_key wanted) tokens.now }
+{
+    match next(tokens) {
+        Some((token, _)) => is_key(wanted, token.kind),
+        None => false,
+    }
+}
+
+/// The tokens after this mark, if it is the first.
+pub fn after_mark(wanted: Mark, tokens: &[Token]) -> Option<&[Token]>
+    ensures finds { FindsFirst (λ _. tt) (λ x. x.now) (is_mark wanted) nothing_of tokens.now result }
+    ensures shorter { IfSome result (λ x. length x.now < length tokens.now) }
+{
+    match next(tokens) {
+        Some((token, rest)) if is_mark(wanted, token.kind) => Some(rest),
+        _ => None,
+    }
+}
+
+/// The tokens after this keyword, if it is the first.
+pub fn after_key(wanted: Key, tokens: &[Token]) -> Option<&[Token]>
+    ensures finds { FindsFirst (λ _. tt) (λ x. x.now) (is_key wanted) nothing_of tokens.now result }
+    ensures shorter { IfSome result (λ x. length x.now < length tokens.now) }
+{
+    match next(tokens) {
+        Some((token, rest)) if is_key(wanted, token.kind) => Some(rest),
+        _ => None,
+    }
+}
+
+/// The place of this keyword and the tokens after it, if it is the first.
+pub fn placed_key(wanted: Key, tokens: &[Token]) -> Option<(Place, &[Token])>
+    ensures finds { FindsFirst (λ x. x.0) (λ x. x.1.now) (is_key wanted) place_of tokens.now result }
+    ensures shorter { IfSome result (λ x. length x.1.now < length tokens.now) }
+{
+    match next(tokens) {
+        Some((token, rest)) if is_key(wanted, token.kind) => Some((token.place, rest)),
+        _ => None,
+    }
+}
+
 /// The tokens after this mark.
 pub fn mark(wanted: Mark, tokens: &[Token]) -> Result<&[Token], ReadFault>
-    ensures { IfOk result (λ rest. length rest.now < length tokens.now) }
+    ensures reads { Gives (λ _. tt) (λ x. x.now) result (mark_at wanted tokens.now) }
+    ensures shorter { IfOk result (λ x. length x.now < length tokens.now) }
 {
-    match front(tokens) {
-        Some((Kind::Mark(found), rest)) if found == wanted => Ok(rest),
+    match next(tokens) {
+        Some((token, rest)) if is_mark(wanted, token.kind) => Ok(rest),
+        _ => Err(ReadFault::Syntax(tokens.len())),
+    }
+}
+
+/// The place of this mark, and the tokens after it.
+pub fn placed_mark(wanted: Mark, tokens: &[Token]) -> Result<(Place, &[Token]), ReadFault>
+    ensures reads { Gives (λ x. x.0) (λ x. x.1.now) result (mark_place_at wanted tokens.now) }
+    ensures shorter { IfOk result (λ x. length x.1.now < length tokens.now) }
+{
+    match next(tokens) {
+        Some((token, rest)) if is_mark(wanted, token.kind) => Ok((token.place, rest)),
         _ => Err(ReadFault::Syntax(tokens.len())),
     }
 }
 
 /// The tokens after this keyword.
 pub fn key(wanted: Key, tokens: &[Token]) -> Result<&[Token], ReadFault>
-    ensures { IfOk result (λ rest. length rest.now < length tokens.now) }
+    ensures reads { Gives (λ _. tt) (λ x. x.now) result (key_at wanted tokens.now) }
+    ensures shorter { IfOk result (λ x. length x.now < length tokens.now) }
 {
-    match front(tokens) {
-        Some((Kind::Key(found), rest)) if found == wanted => Ok(rest),
+    match next(tokens) {
+        Some((token, rest)) if is_key(wanted, token.kind) => Ok(rest),
         _ => Err(ReadFault::Syntax(tokens.len())),
     }
 }
 
 /// A name, and the tokens after it.
 pub fn name<'a>(source: Source<'_>, tokens: &'a [Token]) -> Result<(Word, &'a [Token]), ReadFault>
-    ensures { IfOk result (λ x. length x.1.now < length tokens.now) }
+    ensures reads { Gives (λ x. x.0) (λ x. x.1.now) result (name_at source.entry.text.now tokens.now) }
+    ensures shorter { IfOk result (λ x. length x.1.now < length tokens.now) }
 {
     match next(tokens) {
-        Some((token, rest)) if token.kind == Kind::Name => match spelled(source, token)? {
-            Some(word) => Ok((word, rest)),
-            None => Err(ReadFault::Syntax(tokens.len())),
-        },
+        Some((token, rest)) if is_name(token.kind) => Ok((word(source, token)?, rest)),
         _ => Err(ReadFault::Syntax(tokens.len())),
     }
 }
@@ -69,32 +156,69 @@ pub fn literal<'a>(
     source: Source<'_>,
     tokens: &'a [Token],
 ) -> Result<(Word, &'a [Token]), ReadFault>
-    ensures { IfOk result (λ x. length x.1.now < length tokens.now) }
+    ensures reads { Gives (λ x. x.0) (λ x. x.1.now) result (literal_at source.entry.text.now tokens.now) }
+    ensures shorter { IfOk result (λ x. length x.1.now < length tokens.now) }
 {
     match next(tokens) {
-        Some((token, rest)) if is_literal(token.kind) => match spelled(source, token)? {
-            Some(word) => Ok((word, rest)),
-            None => Err(ReadFault::Syntax(tokens.len())),
-        },
+        Some((token, rest)) if is_literal(token.kind) => Ok((word(source, token)?, rest)),
         _ => Err(ReadFault::Syntax(tokens.len())),
     }
 }
 
+fn is_mark(wanted: Mark, kind: Kind) -> bool
+    ensures { result ≡ is_mark wanted kind }
+{
+    match kind {
+        Kind::Mark(found) => found == wanted,
+        _ => false,
+    }
+}
+
+fn is_key(wanted: Key, kind: Kind) -> bool
+    ensures { result ≡ is_key wanted kind }
+{
+    match kind {
+        Kind::Key(found) => found == wanted,
+        _ => false,
+    }
+}
+
+fn is_name(kind: Kind) -> bool
+    ensures { result ≡ is_name kind }
+{
+    matches!(kind, Kind::Name)
+}
+
 /// Whether a token of this kind is a literal.
-pub fn is_literal(kind: Kind) -> bool {
+pub fn is_literal(kind: Kind) -> bool
+    ensures { result ≡ is_literal kind }
+{
     matches!(
         kind,
         Kind::Text | Kind::Number | Kind::Key(Key::True) | Kind::Key(Key::False)
     )
 }
 
-/// The word that the token's characters make, if they are a part of the text.
-fn spelled(source: Source<'_>, token: Token) -> Result<Option<Word>, AllocError> {
-    match source.text.get(token.start as usize..token.end as usize) {
-        Some(piece) => Ok(Some(Word {
-            name: Name(String::from_str(source.alloc, piece)?),
-            place: token.place,
-        })),
-        None => Ok(None),
+/// The token's word.
+fn word(source: Source<'_>, token: Token) -> Result<Word, AllocError>
+    ensures { IfOk result (λ x. x ≡ word_of source.entry.text.now token) }
+{
+    let name = Name(String::from_str(source.alloc, piece(source.text, token))?);
+    Ok(Word {
+        name,
+        place: token.place,
+    })
+}
+
+/// The token's part of the text, or nothing if the text may not be cut there.
+fn piece(text: &str, token: Token) -> &str
+    ensures { result.now ≡ bytes_of text.now token }
+{
+    let start = token.start as usize;
+    let end = token.end as usize;
+    if start <= end && text.is_char_boundary(start) && text.is_char_boundary(end) {
+        &text[start..end]
+    } else {
+        ""
     }
 }

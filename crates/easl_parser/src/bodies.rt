@@ -1,19 +1,25 @@
 //! What stands in the braces of a constructor or a method: clauses, steps and a return.
-ghost use Rattle.std.specs.Prelude.{◌<◌, ◌≤◌, length, IfOk, IsSome};
+ghost use Rattle.std.specs.Prelude.{◌≡◌, ◌<◌, ◌≤◌, Some, length, IfOk, IsSome};
+ghost use Rattle.easl_model.specs.declared.token.Key.TheVariants as key;
+ghost use Rattle.easl_model.specs.declared.token.Mark.TheVariants as mark;
+ghost use Rattle.cv_read.specs.Read.{Gives, before_mark, begins, is_key, step_at};
+ghost use Rattle.easl_parser.specs.Reading.{any_at, clause_at, clauses_at, path_starts, step_read, steps_at, step_behind, named_step_at, declare_at, assign_at, set_at, return_some, return_at};
 
 use crate::conditions::any;
-use crate::paths::{path_of, value};
-use cv_read::{ReadFault, Source, front, mark, name, next};
-use easl_model::{Cond, Key, Kind, Mark, Place, Step, Token, Value, Word};
+use crate::paths::{is_path_start, path_of, value};
+use cv_read::{ReadFault, Source, after_key, begins_name, front, mark, name, placed_key};
+use easl_model::{Cond, Key, Mark, Place, Step, Token, Value, Word};
 use sqlite_items::Items;
 
 /// `clause*`
+#[tactic(auto, using(cv_read::proofs::Along::starts, cv_read::proofs::Along::ends, cv_read::proofs::Along::stops, cv_read::proofs::Along::deepens))]
 pub(crate) fn clauses<'a>(
     source: Source<'_>,
     depth: u32,
     tokens: &'a [Token],
 ) -> Result<(Items<Cond>, &'a [Token]), ReadFault>
-    ensures { IfOk result (λ x. length x.1.now ≤ length tokens.now) }
+    ensures reads { Gives (λ x. x.0) (λ x. x.1.now) result (clauses_at source.entry.text.now depth tokens.now) }
+    ensures shorter { IfOk result (λ x. length x.1.now ≤ length tokens.now) }
 {
     let mut found = Items::new(source.alloc);
     let mut rest = tokens;
@@ -27,30 +33,47 @@ pub(crate) fn clauses<'a>(
     }
 }
 
+#[tactic(auto, unfolding(crate::specs::Reading::clause_at))]
 fn maybe_clause<'a>(
     source: Source<'_>,
     depth: u32,
     tokens: &'a [Token],
 ) -> Result<(Option<Cond>, &'a [Token]), ReadFault>
+    ensures reads { Gives (λ x. x.0) (λ x. x.1.now) result (step_at (is_key key.Requires) (clause_at source.entry.text.now depth) tokens.now) }
     ensures shorter { IfOk result (λ x. length x.1.now ≤ length tokens.now) }
     ensures takes { IfOk result (λ x. IsSome x.0 → length x.1.now < length tokens.now) }
 {
-    match front(tokens) {
-        Some((Kind::Key(Key::Requires), after)) => {
-            let (item, rest) = any(source, depth, after)?;
-            let rest = mark(Mark::Semicolon, rest)?;
+    match after_key(Key::Requires, tokens) {
+        Some(after) => {
+            let (item, rest) = condition(source, depth, after)?;
             Ok((Some(item), rest))
         }
-        _ => Ok((None, tokens)),
+        None => Ok((None, tokens)),
     }
 }
 
+/// `any ";"`
+fn condition<'a>(
+    source: Source<'_>,
+    depth: u32,
+    tokens: &'a [Token],
+) -> Result<(Cond, &'a [Token]), ReadFault>
+    ensures reads { Gives (λ x. x.0) (λ x. x.1.now) result (before_mark mark.Semicolon (any_at source.entry.text.now depth) tokens.now) }
+    ensures shorter { IfOk result (λ x. length x.1.now < length tokens.now) }
+{
+    let (found, rest) = any(source, depth, tokens)?;
+    let rest = mark(Mark::Semicolon, rest)?;
+    Ok((found, rest))
+}
+
 /// `step*`
+#[tactic(auto, using(cv_read::proofs::Along::starts, cv_read::proofs::Along::ends, cv_read::proofs::Along::stops, cv_read::proofs::Along::deepens))]
 pub(crate) fn steps<'a>(
     source: Source<'_>,
     tokens: &'a [Token],
 ) -> Result<(Items<Step>, &'a [Token]), ReadFault>
-    ensures { IfOk result (λ x. length x.1.now ≤ length tokens.now) }
+    ensures reads { Gives (λ x. x.0) (λ x. x.1.now) result (steps_at source.entry.text.now tokens.now) }
+    ensures shorter { IfOk result (λ x. length x.1.now ≤ length tokens.now) }
 {
     let mut found = Items::new(source.alloc);
     let mut rest = tokens;
@@ -68,48 +91,61 @@ fn maybe_step<'a>(
     source: Source<'_>,
     tokens: &'a [Token],
 ) -> Result<(Option<Step>, &'a [Token]), ReadFault>
+    ensures reads { Gives (λ x. x.0) (λ x. x.1.now) result (step_at path_starts (step_read source.entry.text.now) tokens.now) }
     ensures shorter { IfOk result (λ x. length x.1.now ≤ length tokens.now) }
     ensures takes { IfOk result (λ x. IsSome x.0 → length x.1.now < length tokens.now) }
 {
+    if begins_step(tokens) {
+        let (item, rest) = step(source, tokens)?;
+        Ok((Some(item), rest))
+    } else {
+        Ok((None, tokens))
+    }
+}
+
+fn begins_step(tokens: &[Token]) -> bool
+    ensures { result ≡ begins path_starts tokens.now }
+{
     match front(tokens) {
-        Some((Kind::Name | Kind::Key(Key::This), _)) => {
-            let (item, rest) = step(source, tokens)?;
-            Ok((Some(item), rest))
-        }
-        _ => Ok((None, tokens)),
+        Some((kind, _)) => is_path_start(kind),
+        None => false,
     }
 }
 
 /// `Name Name "=" value ";" | path "=" value ";"`
+#[tactic(auto, unfolding(crate::specs::Reading::step_read))]
 fn step<'a>(source: Source<'_>, tokens: &'a [Token]) -> Result<(Step, &'a [Token]), ReadFault>
-    ensures { IfOk result (λ x. length x.1.now < length tokens.now) }
+    ensures reads { Gives (λ x. x.0) (λ x. x.1.now) result (step_read source.entry.text.now tokens.now) }
+    ensures shorter { IfOk result (λ x. length x.1.now < length tokens.now) }
 {
-    match next(tokens) {
-        Some((token, after)) if token.kind == Kind::Key(Key::This) => {
-            assign(source, None, token.place, after)
-        }
-        _ => named_step(source, tokens),
+    match placed_key(Key::This, tokens) {
+        Some((place, rest)) => assign(source, None, place, rest),
+        None => named_step(source, tokens),
     }
 }
 
 fn named_step<'a>(source: Source<'_>, tokens: &'a [Token]) -> Result<(Step, &'a [Token]), ReadFault>
-    ensures { IfOk result (λ x. length x.1.now < length tokens.now) }
+    ensures reads { Gives (λ x. x.0) (λ x. x.1.now) result (named_step_at source.entry.text.now tokens.now) }
+    ensures shorter { IfOk result (λ x. length x.1.now < length tokens.now) }
 {
     let (first, rest) = name(source, tokens)?;
     behind_name(source, first, rest)
 }
 
+/// A step behind its first name.
 fn behind_name<'a>(
     source: Source<'_>,
     first: Word,
     tokens: &'a [Token],
 ) -> Result<(Step, &'a [Token]), ReadFault>
-    ensures { IfOk result (λ x. length x.1.now < length tokens.now) }
+    ensures reads { Gives (λ x. x.0) (λ x. x.1.now) result (step_behind source.entry.text.now first tokens.now) }
+    ensures shorter { IfOk result (λ x. length x.1.now < length tokens.now) }
 {
     let place = first.place;
-    match front(tokens) {
-        Some((Kind::Name, _)) => declare(source, first, tokens),
-        _ => assign(source, Some(first), place, tokens),
+    if begins_name(tokens) {
+        declare(source, first, tokens)
+    } else {
+        assign(source, Some(first), place, tokens)
     }
 }
 
@@ -118,7 +154,8 @@ fn declare<'a>(
     class: Word,
     tokens: &'a [Token],
 ) -> Result<(Step, &'a [Token]), ReadFault>
-    ensures { IfOk result (λ x. length x.1.now < length tokens.now) }
+    ensures reads { Gives (λ x. x.0) (λ x. x.1.now) result (declare_at source.entry.text.now class tokens.now) }
+    ensures shorter { IfOk result (λ x. length x.1.now < length tokens.now) }
 {
     let (name, rest) = name(source, tokens)?;
     let (value, rest) = assigned(source, rest)?;
@@ -131,7 +168,8 @@ fn assign<'a>(
     place: Place,
     tokens: &'a [Token],
 ) -> Result<(Step, &'a [Token]), ReadFault>
-    ensures { IfOk result (λ x. length x.1.now < length tokens.now) }
+    ensures reads { Gives (λ x. x.0) (λ x. x.1.now) result (assign_at source.entry.text.now head place tokens.now) }
+    ensures shorter { IfOk result (λ x. length x.1.now < length tokens.now) }
 {
     let (path, rest) = path_of(source, head, place, tokens)?;
     let (value, rest) = assigned(source, rest)?;
@@ -139,8 +177,10 @@ fn assign<'a>(
 }
 
 /// `"=" value ";"`
+#[tactic(auto, unfolding(crate::specs::Reading::set_at))]
 fn assigned<'a>(source: Source<'_>, tokens: &'a [Token]) -> Result<(Value, &'a [Token]), ReadFault>
-    ensures { IfOk result (λ x. length x.1.now < length tokens.now) }
+    ensures reads { Gives (λ x. x.0) (λ x. x.1.now) result (set_at source.entry.text.now tokens.now) }
+    ensures shorter { IfOk result (λ x. length x.1.now < length tokens.now) }
 {
     let rest = mark(Mark::Assign, tokens)?;
     let (value, rest) = value(source, rest)?;
@@ -149,18 +189,29 @@ fn assigned<'a>(source: Source<'_>, tokens: &'a [Token]) -> Result<(Value, &'a [
 }
 
 /// `("return" value ";")?`
+#[tactic(auto, unfolding(crate::specs::Reading::return_at))]
 pub(crate) fn returned<'a>(
     source: Source<'_>,
     tokens: &'a [Token],
 ) -> Result<(Option<Value>, &'a [Token]), ReadFault>
-    ensures { IfOk result (λ x. length x.1.now ≤ length tokens.now) }
+    ensures reads { Gives (λ x. x.0) (λ x. x.1.now) result (return_at source.entry.text.now tokens.now) }
+    ensures shorter { IfOk result (λ x. length x.1.now ≤ length tokens.now) }
 {
-    match front(tokens) {
-        Some((Kind::Key(Key::Return), after)) => {
-            let (value, rest) = value(source, after)?;
-            let rest = mark(Mark::Semicolon, rest)?;
-            Ok((Some(value), rest))
-        }
-        _ => Ok((None, tokens)),
+    match after_key(Key::Return, tokens) {
+        Some(after) => some_returned(source, after),
+        None => Ok((None, tokens)),
     }
+}
+
+/// `value ";"`
+fn some_returned<'a>(
+    source: Source<'_>,
+    tokens: &'a [Token],
+) -> Result<(Option<Value>, &'a [Token]), ReadFault>
+    ensures reads { Gives (λ x. x.0) (λ x. x.1.now) result (return_some source.entry.text.now tokens.now) }
+    ensures shorter { IfOk result (λ x. length x.1.now < length tokens.now) }
+{
+    let (value, rest) = value(source, tokens)?;
+    let rest = mark(Mark::Semicolon, rest)?;
+    Ok((Some(value), rest))
 }

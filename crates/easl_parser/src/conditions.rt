@@ -1,22 +1,28 @@
 //! Conditions: `any := all ("||" all)*`, `all := atom ("&&" atom)*`, `atom := path ("==" | "!=") path | "(" any ")"`.
 //! `depth` is how many conditions may still stand in one another; texts with too many open brackets are
 //! refused before, so it does not run out.
-ghost use Rattle.std.specs.Prelude.{◌<◌, ◌≤◌, length, IfOk, IsSome};
+ghost use Rattle.std.specs.Prelude.{◌≡◌, ◌<◌, ◌≤◌, false, length, IfOk, IsSome};
+ghost use Rattle.easl_model.specs.declared.token.Mark.TheVariants as mark;
+ghost use Rattle.cv_read.specs.Read.{Gives, Got, behind_mark, before_mark, items_at};
+ghost use Rattle.easl_parser.specs.Reading.{sign_at, compare, comparison_at, and_by, or_by, atom_at, all_at, any_by, any_at};
+ghost use Rattle.easl_parser.specs.Reading as reading;
 
 use crate::paths::path;
-use cv_read::{ReadFault, Source, front, mark};
-use easl_model::{Cond, Kind, Mark, Path, Token};
+use cv_read::{ReadFault, Source, after_mark, mark};
+use easl_model::{Cond, Mark, Path, Token};
 use sqlite_items::Items;
 use std::alloc::{AllocError, Global};
 
 /// `all ("||" all)*`; an `any` of one member is that member.
 #[cycle(conditions)]
+#[tactic(auto, using(crate::proofs::Levels::any_none, crate::proofs::Levels::any_some))]
 pub(crate) fn any<'a>(
     source: Source<'_>,
     depth: u32,
     tokens: &'a [Token],
 ) -> Result<(Cond, &'a [Token]), ReadFault>
-    ensures { IfOk result (λ x. length x.1.now < length tokens.now) }
+    ensures reads { Gives (λ x. x.0) (λ x. x.1.now) result (any_at source.entry.text.now depth tokens.now) }
+    ensures shorter { IfOk result (λ x. length x.1.now < length tokens.now) }
 {
     if depth == 0 {
         return Err(ReadFault::Nesting(tokens.len()));
@@ -25,12 +31,14 @@ pub(crate) fn any<'a>(
 }
 
 #[cycle(conditions)]
+#[tactic(auto, unfolding(crate::specs::Reading::any_by))]
 fn any_within<'a>(
     source: Source<'_>,
     depth: u32,
     tokens: &'a [Token],
 ) -> Result<(Cond, &'a [Token]), ReadFault>
-    ensures { IfOk result (λ x. length x.1.now < length tokens.now) }
+    ensures reads { Gives (λ x. x.0) (λ x. x.1.now) result (any_by (all_at source.entry.text.now depth) tokens.now) }
+    ensures shorter { IfOk result (λ x. length x.1.now < length tokens.now) }
 {
     let (first, rest) = all(source, depth, tokens)?;
     let (more, rest) = or_alls(source, depth, rest)?;
@@ -38,12 +46,14 @@ fn any_within<'a>(
 }
 
 #[cycle(conditions)]
+#[tactic(auto, using(cv_read::proofs::Along::starts, cv_read::proofs::Along::ends, cv_read::proofs::Along::stops, cv_read::proofs::Along::deepens))]
 fn or_alls<'a>(
     source: Source<'_>,
     depth: u32,
     tokens: &'a [Token],
 ) -> Result<(Items<Cond>, &'a [Token]), ReadFault>
-    ensures { IfOk result (λ x. length x.1.now ≤ length tokens.now) }
+    ensures reads { Gives (λ x. x.0) (λ x. x.1.now) result (items_at (or_by (all_at source.entry.text.now depth)) tokens.now) }
+    ensures shorter { IfOk result (λ x. length x.1.now ≤ length tokens.now) }
 {
     let mut found = Items::new(source.alloc);
     let mut rest = tokens;
@@ -63,26 +73,29 @@ fn or_all<'a>(
     depth: u32,
     tokens: &'a [Token],
 ) -> Result<(Option<Cond>, &'a [Token]), ReadFault>
+    ensures reads { Gives (λ x. x.0) (λ x. x.1.now) result (or_by (all_at source.entry.text.now depth) tokens.now) }
     ensures shorter { IfOk result (λ x. length x.1.now ≤ length tokens.now) }
     ensures takes { IfOk result (λ x. IsSome x.0 → length x.1.now < length tokens.now) }
 {
-    match front(tokens) {
-        Some((Kind::Mark(Mark::Or), after)) => {
+    match after_mark(Mark::Or, tokens) {
+        Some(after) => {
             let (item, rest) = all(source, depth, after)?;
             Ok((Some(item), rest))
         }
-        _ => Ok((None, tokens)),
+        None => Ok((None, tokens)),
     }
 }
 
 /// `atom ("&&" atom)*`; an `all` of one member is that member.
 #[cycle(conditions)]
+#[tactic(auto, unfolding(crate::specs::Reading::all_by))]
 fn all<'a>(
     source: Source<'_>,
     depth: u32,
     tokens: &'a [Token],
 ) -> Result<(Cond, &'a [Token]), ReadFault>
-    ensures { IfOk result (λ x. length x.1.now < length tokens.now) }
+    ensures reads { Gives (λ x. x.0) (λ x. x.1.now) result (all_at source.entry.text.now depth tokens.now) }
+    ensures shorter { IfOk result (λ x. length x.1.now < length tokens.now) }
 {
     let (first, rest) = atom(source, depth, tokens)?;
     let (more, rest) = and_atoms(source, depth, rest)?;
@@ -90,12 +103,14 @@ fn all<'a>(
 }
 
 #[cycle(conditions)]
+#[tactic(auto, using(cv_read::proofs::Along::starts, cv_read::proofs::Along::ends, cv_read::proofs::Along::stops, cv_read::proofs::Along::deepens))]
 fn and_atoms<'a>(
     source: Source<'_>,
     depth: u32,
     tokens: &'a [Token],
 ) -> Result<(Items<Cond>, &'a [Token]), ReadFault>
-    ensures { IfOk result (λ x. length x.1.now ≤ length tokens.now) }
+    ensures reads { Gives (λ x. x.0) (λ x. x.1.now) result (items_at (and_by (atom_at source.entry.text.now depth)) tokens.now) }
+    ensures shorter { IfOk result (λ x. length x.1.now ≤ length tokens.now) }
 {
     let mut found = Items::new(source.alloc);
     let mut rest = tokens;
@@ -115,15 +130,16 @@ fn and_atom<'a>(
     depth: u32,
     tokens: &'a [Token],
 ) -> Result<(Option<Cond>, &'a [Token]), ReadFault>
+    ensures reads { Gives (λ x. x.0) (λ x. x.1.now) result (and_by (atom_at source.entry.text.now depth) tokens.now) }
     ensures shorter { IfOk result (λ x. length x.1.now ≤ length tokens.now) }
     ensures takes { IfOk result (λ x. IsSome x.0 → length x.1.now < length tokens.now) }
 {
-    match front(tokens) {
-        Some((Kind::Mark(Mark::And), after)) => {
+    match after_mark(Mark::And, tokens) {
+        Some(after) => {
             let (item, rest) = atom(source, depth, after)?;
             Ok((Some(item), rest))
         }
-        _ => Ok((None, tokens)),
+        None => Ok((None, tokens)),
     }
 }
 
@@ -133,11 +149,12 @@ fn atom<'a>(
     depth: u32,
     tokens: &'a [Token],
 ) -> Result<(Cond, &'a [Token]), ReadFault>
-    ensures { IfOk result (λ x. length x.1.now < length tokens.now) }
+    ensures reads { Gives (λ x. x.0) (λ x. x.1.now) result (atom_at source.entry.text.now depth tokens.now) }
+    ensures shorter { IfOk result (λ x. length x.1.now < length tokens.now) }
 {
-    match front(tokens) {
-        Some((Kind::Mark(Mark::Open), after)) => group(source, depth, after),
-        _ => comparison(source, tokens),
+    match after_mark(Mark::Open, tokens) {
+        Some(after) => group(source, depth, after),
+        None => comparison(source, tokens),
     }
 }
 
@@ -148,7 +165,8 @@ fn group<'a>(
     depth: u32,
     tokens: &'a [Token],
 ) -> Result<(Cond, &'a [Token]), ReadFault>
-    ensures { IfOk result (λ x. length x.1.now < length tokens.now) }
+    ensures reads { Gives (λ x. x.0) (λ x. x.1.now) result (before_mark mark.Close (any_at source.entry.text.now depth) tokens.now) }
+    ensures shorter { IfOk result (λ x. length x.1.now < length tokens.now) }
 {
     let (found, rest) = any(source, depth, tokens)?;
     let rest = mark(Mark::Close, rest)?;
@@ -156,8 +174,10 @@ fn group<'a>(
 }
 
 /// `path ("==" | "!=") path`
+#[tactic(auto, unfolding(crate::specs::Reading::comparison_at))]
 fn comparison<'a>(source: Source<'_>, tokens: &'a [Token]) -> Result<(Cond, &'a [Token]), ReadFault>
-    ensures { IfOk result (λ x. length x.1.now < length tokens.now) }
+    ensures reads { Gives (λ x. x.0) (λ x. x.1.now) result (comparison_at source.entry.text.now tokens.now) }
+    ensures shorter { IfOk result (λ x. length x.1.now < length tokens.now) }
 {
     let (left, rest) = path(source, tokens)?;
     let (same, rest) = sign(rest)?;
@@ -167,16 +187,26 @@ fn comparison<'a>(source: Source<'_>, tokens: &'a [Token]) -> Result<(Cond, &'a 
 
 /// Whether it is `==`, where it is `==` or `!=`.
 fn sign(tokens: &[Token]) -> Result<(bool, &[Token]), ReadFault>
-    ensures { IfOk result (λ x. length x.1.now < length tokens.now) }
+    ensures reads { Gives (λ x. x.0) (λ x. x.1.now) result (sign_at tokens.now) }
+    ensures shorter { IfOk result (λ x. length x.1.now < length tokens.now) }
 {
-    match front(tokens) {
-        Some((Kind::Mark(Mark::Same), rest)) => Ok((true, rest)),
-        Some((Kind::Mark(Mark::Differ), rest)) => Ok((false, rest)),
-        _ => Err(ReadFault::Syntax(tokens.len())),
+    match after_mark(Mark::Same, tokens) {
+        Some(rest) => Ok((true, rest)),
+        None => differs(tokens),
     }
 }
 
-fn compared(same: bool, left: Path, right: Path) -> Cond {
+fn differs(tokens: &[Token]) -> Result<(bool, &[Token]), ReadFault>
+    ensures reads { Gives (λ x. x.0) (λ x. x.1.now) result (behind_mark mark.Differ (λ us. Got false us) tokens.now) }
+    ensures shorter { IfOk result (λ x. length x.1.now < length tokens.now) }
+{
+    let rest = mark(Mark::Differ, tokens)?;
+    Ok((false, rest))
+}
+
+fn compared(same: bool, left: Path, right: Path) -> Cond
+    ensures { result ≡ compare same left right }
+{
     if same {
         Cond::Same(left, right)
     } else {
@@ -184,7 +214,9 @@ fn compared(same: bool, left: Path, right: Path) -> Cond {
     }
 }
 
-fn one_or_all(alloc: Global, first: Cond, more: Items<Cond>) -> Result<Cond, AllocError> {
+fn one_or_all(alloc: Global, first: Cond, more: Items<Cond>) -> Result<Cond, AllocError>
+    ensures { IfOk result (λ x. x ≡ reading.one_or_all first more) }
+{
     if more.is_empty() {
         return Ok(first);
     }
@@ -194,7 +226,9 @@ fn one_or_all(alloc: Global, first: Cond, more: Items<Cond>) -> Result<Cond, All
     Ok(Cond::All(items))
 }
 
-fn one_or_any(alloc: Global, first: Cond, more: Items<Cond>) -> Result<Cond, AllocError> {
+fn one_or_any(alloc: Global, first: Cond, more: Items<Cond>) -> Result<Cond, AllocError>
+    ensures { IfOk result (λ x. x ≡ reading.one_or_any first more) }
+{
     if more.is_empty() {
         return Ok(first);
     }

@@ -7,4 +7,4 @@ mod members;
 mod paths;
 mod whole;
 
-pub use whole::read_spec;
+pub use whole::{one_answer, one_tree, read_spec};

@@ -1,20 +1,26 @@
 //! Classes and their members. Where rules begin alike, the common part is read first.
-ghost use Rattle.std.specs.Prelude.{◌<◌, ◌≤◌, length, IfOk, IsSome};
+ghost use Rattle.std.specs.Prelude.{◌≡◌, ◌<◌, ◌≤◌, true, false, length, IfOk, IfSome, IsSome, MatchOption};
+ghost use Rattle.easl_model.specs.declared.tree.Sort.TheVariants as sort;
+ghost use Rattle.cv_read.specs.Read.{Gives, FindsFirst, begins, step_at, commas_at, more_at, next_at, listed_at};
+ghost use Rattle.easl_parser.specs.Reading.{is_opaque, opaque_in, opaque_of, type_starts, type_at, class_type_at, param_at, params_at, constructor_at, method_at, behind_two, two_names_at, behind_one, named_member_at, plain_at, opaque_at, plain_method_at, member_at, member_starts, members_at, class_at};
 
 use crate::bodies::{clauses, returned, steps};
-use cv_read::{ReadFault, Source, front, key, mark, name, next};
-use easl_model::{
-    Class, Code, Field, Key, Kind, Mark, Member, Opaque, Param, Place, Sort, Token, Word,
+use cv_read::{
+    ReadFault, Source, after_key, after_mark, begins_mark, begins_name, front, key, mark, name,
+    next, placed_mark,
 };
+use easl_model::{Class, Code, Field, Key, Kind, Mark, Member, Opaque, Param, Sort, Token, Word};
 use sqlite_items::Items;
 
 /// `"class" Name "{" member* "}"`
+#[tactic(auto, unfolding(crate::specs::Reading::class_at))]
 pub(crate) fn class<'a>(
     source: Source<'_>,
     depth: u32,
     tokens: &'a [Token],
 ) -> Result<(Class, &'a [Token]), ReadFault>
-    ensures { IfOk result (λ x. length x.1.now < length tokens.now) }
+    ensures reads { Gives (λ x. x.0) (λ x. x.1.now) result (class_at source.entry.text.now depth tokens.now) }
+    ensures shorter { IfOk result (λ x. length x.1.now < length tokens.now) }
 {
     let rest = key(Key::Class, tokens)?;
     let (name, rest) = name(source, rest)?;
@@ -25,12 +31,14 @@ pub(crate) fn class<'a>(
 }
 
 /// `member*`
+#[tactic(auto, using(cv_read::proofs::Along::starts, cv_read::proofs::Along::ends, cv_read::proofs::Along::stops, cv_read::proofs::Along::deepens))]
 fn members<'a>(
     source: Source<'_>,
     depth: u32,
     tokens: &'a [Token],
 ) -> Result<(Items<Member>, &'a [Token]), ReadFault>
-    ensures { IfOk result (λ x. length x.1.now ≤ length tokens.now) }
+    ensures reads { Gives (λ x. x.0) (λ x. x.1.now) result (members_at source.entry.text.now depth tokens.now) }
+    ensures shorter { IfOk result (λ x. length x.1.now ≤ length tokens.now) }
 {
     let mut found = Items::new(source.alloc);
     let mut rest = tokens;
@@ -49,41 +57,48 @@ fn maybe_member<'a>(
     depth: u32,
     tokens: &'a [Token],
 ) -> Result<(Option<Member>, &'a [Token]), ReadFault>
+    ensures reads { Gives (λ x. x.0) (λ x. x.1.now) result (step_at member_starts (member_at source.entry.text.now depth) tokens.now) }
     ensures shorter { IfOk result (λ x. length x.1.now ≤ length tokens.now) }
     ensures takes { IfOk result (λ x. IsSome x.0 → length x.1.now < length tokens.now) }
 {
+    if begins_member(tokens) {
+        let (item, rest) = member(source, depth, tokens)?;
+        Ok((Some(item), rest))
+    } else {
+        Ok((None, tokens))
+    }
+}
+
+fn begins_member(tokens: &[Token]) -> bool
+    ensures { result ≡ begins member_starts tokens.now }
+{
     match front(tokens) {
-        Some((kind, _)) if begins_member(kind) => {
-            let (item, rest) = member(source, depth, tokens)?;
-            Ok((Some(item), rest))
-        }
-        _ => Ok((None, tokens)),
+        Some((kind, _)) => kind == Kind::Key(Key::Void) || is_sort_start(kind),
+        None => false,
     }
 }
 
-fn begins_member(kind: Kind) -> bool {
-    kind == Kind::Key(Key::Void) || begins_sort(kind)
-}
-
-fn begins_sort(kind: Kind) -> bool {
-    match kind {
-        Kind::Name => true,
-        Kind::Key(word) => opaque(word).is_some(),
-        _ => false,
-    }
+/// Whether the type of a parameter can begin with a token of this kind.
+fn is_sort_start(kind: Kind) -> bool
+    ensures { result ≡ type_starts kind }
+{
+    kind == Kind::Name || opaque(kind).is_some()
 }
 
 /// `field | constructor | method`
+#[tactic(auto, unfolding(crate::specs::Reading::member_at))]
 fn member<'a>(
     source: Source<'_>,
     depth: u32,
     tokens: &'a [Token],
 ) -> Result<(Member, &'a [Token]), ReadFault>
-    ensures { IfOk result (λ x. length x.1.now < length tokens.now) }
+    ensures reads { Gives (λ x. x.0) (λ x. x.1.now) result (member_at source.entry.text.now depth tokens.now) }
+    ensures shorter { IfOk result (λ x. length x.1.now < length tokens.now) }
 {
-    match front(tokens) {
-        Some((Kind::Name, _)) => named_member(source, depth, tokens),
-        _ => plain_method(source, depth, tokens),
+    if begins_name(tokens) {
+        named_member(source, depth, tokens)
+    } else {
+        plain_method(source, depth, tokens)
     }
 }
 
@@ -93,29 +108,58 @@ fn named_member<'a>(
     depth: u32,
     tokens: &'a [Token],
 ) -> Result<(Member, &'a [Token]), ReadFault>
-    ensures { IfOk result (λ x. length x.1.now < length tokens.now) }
+    ensures reads { Gives (λ x. x.0) (λ x. x.1.now) result (named_member_at source.entry.text.now depth tokens.now) }
+    ensures shorter { IfOk result (λ x. length x.1.now < length tokens.now) }
 {
     let (first, rest) = name(source, tokens)?;
-    match front(rest) {
-        Some((Kind::Mark(Mark::Open), _)) => constructor(source, first, rest),
-        _ => behind_class(source, depth, first, rest),
+    behind_name(source, depth, first, rest)
+}
+
+/// The member behind its first name.
+fn behind_name<'a>(
+    source: Source<'_>,
+    depth: u32,
+    first: Word,
+    tokens: &'a [Token],
+) -> Result<(Member, &'a [Token]), ReadFault>
+    ensures reads { Gives (λ x. x.0) (λ x. x.1.now) result (behind_one source.entry.text.now depth first tokens.now) }
+    ensures shorter { IfOk result (λ x. length x.1.now < length tokens.now) }
+{
+    if begins_mark(Mark::Open, tokens) {
+        constructor(source, first, tokens)
+    } else {
+        behind_class(source, depth, first, tokens)
     }
 }
 
+/// The member behind a class.
 fn behind_class<'a>(
     source: Source<'_>,
     depth: u32,
     class: Word,
     tokens: &'a [Token],
 ) -> Result<(Member, &'a [Token]), ReadFault>
-    ensures { IfOk result (λ x. length x.1.now < length tokens.now) }
+    ensures reads { Gives (λ x. x.0) (λ x. x.1.now) result (two_names_at source.entry.text.now depth class tokens.now) }
+    ensures shorter { IfOk result (λ x. length x.1.now < length tokens.now) }
 {
     let (name, rest) = name(source, tokens)?;
-    match front(rest) {
-        Some((Kind::Mark(Mark::Semicolon), rest)) => {
-            Ok((Member::Field(Field { class, name }), rest))
-        }
-        _ => method(source, depth, Sort::Class(class), name, rest),
+    behind_both(source, depth, class, name, rest)
+}
+
+/// The member behind a class and a name.
+fn behind_both<'a>(
+    source: Source<'_>,
+    depth: u32,
+    class: Word,
+    name: Word,
+    tokens: &'a [Token],
+) -> Result<(Member, &'a [Token]), ReadFault>
+    ensures reads { Gives (λ x. x.0) (λ x. x.1.now) result (behind_two source.entry.text.now depth class name tokens.now) }
+    ensures shorter { IfOk result (λ x. length x.1.now < length tokens.now) }
+{
+    match after_mark(Mark::Semicolon, tokens) {
+        Some(rest) => Ok((Member::Field(Field { class, name }), rest)),
+        None => method(source, depth, Sort::Class(class), name, tokens),
     }
 }
 
@@ -125,7 +169,8 @@ fn plain_method<'a>(
     depth: u32,
     tokens: &'a [Token],
 ) -> Result<(Member, &'a [Token]), ReadFault>
-    ensures { IfOk result (λ x. length x.1.now < length tokens.now) }
+    ensures reads { Gives (λ x. x.0) (λ x. x.1.now) result (plain_method_at source.entry.text.now depth tokens.now) }
+    ensures shorter { IfOk result (λ x. length x.1.now < length tokens.now) }
 {
     let (sort, rest) = plain(tokens)?;
     let (name, rest) = name(source, rest)?;
@@ -133,41 +178,67 @@ fn plain_method<'a>(
 }
 
 fn plain(tokens: &[Token]) -> Result<(Sort, &[Token]), ReadFault>
-    ensures { IfOk result (λ x. length x.1.now < length tokens.now) }
+    ensures reads { Gives (λ x. x.0) (λ x. x.1.now) result (plain_at tokens.now) }
+    ensures shorter { IfOk result (λ x. length x.1.now < length tokens.now) }
 {
-    match front(tokens) {
-        Some((Kind::Key(Key::Void), rest)) => Ok((Sort::Void, rest)),
-        Some((Kind::Key(word), rest)) => match opaque(word) {
-            Some(kind) => Ok((Sort::Opaque(kind), rest)),
-            None => Err(ReadFault::Syntax(tokens.len())),
-        },
-        _ => Err(ReadFault::Syntax(tokens.len())),
+    match after_key(Key::Void, tokens) {
+        Some(rest) => Ok((Sort::Void, rest)),
+        None => opaque_sort(tokens),
     }
 }
 
-/// The opaque kind that a keyword names.
-fn opaque(word: Key) -> Option<Opaque> {
-    match word {
-        Key::Object => Some(Opaque::Object),
-        Key::Int => Some(Opaque::Int),
-        Key::Boolean => Some(Opaque::Boolean),
-        Key::String => Some(Opaque::String),
+fn opaque_sort(tokens: &[Token]) -> Result<(Sort, &[Token]), ReadFault>
+    ensures reads { Gives (λ x. x.0) (λ x. x.1.now) result (opaque_at tokens.now) }
+    ensures shorter { IfOk result (λ x. length x.1.now < length tokens.now) }
+{
+    match after_opaque(tokens) {
+        Some((kind, rest)) => Ok((Sort::Opaque(kind), rest)),
+        None => Err(ReadFault::Syntax(tokens.len())),
+    }
+}
+
+/// The opaque type that the first token names, and the tokens after it.
+fn after_opaque(tokens: &[Token]) -> Option<(Opaque, &[Token])>
+    ensures finds { FindsFirst (λ x. x.0) (λ x. x.1.now) is_opaque opaque_of tokens.now result }
+    ensures shorter { IfSome result (λ x. length x.1.now < length tokens.now) }
+{
+    match next(tokens) {
+        Some((token, rest)) => match opaque(token.kind) {
+            Some(found) => Some((found, rest)),
+            None => None,
+        },
+        None => None,
+    }
+}
+
+/// The opaque type that a token of this kind names.
+fn opaque(kind: Kind) -> Option<Opaque>
+    ensures { MatchOption result (is_opaque kind ≡ false)
+        (λ x. (is_opaque kind ≡ true) × (x ≡ opaque_in kind)) }
+{
+    match kind {
+        Kind::Key(Key::Object) => Some(Opaque::Object),
+        Kind::Key(Key::Int) => Some(Opaque::Int),
+        Kind::Key(Key::Boolean) => Some(Opaque::Boolean),
+        Kind::Key(Key::String) => Some(Opaque::String),
         _ => None,
     }
 }
 
 /// A constructor behind its name.
+#[tactic(auto, unfolding(crate::specs::Reading::constructor_at))]
 fn constructor<'a>(
     source: Source<'_>,
     name: Word,
     tokens: &'a [Token],
 ) -> Result<(Member, &'a [Token]), ReadFault>
-    ensures { IfOk result (λ x. length x.1.now < length tokens.now) }
+    ensures reads { Gives (λ x. x.0) (λ x. x.1.now) result (constructor_at source.entry.text.now name tokens.now) }
+    ensures shorter { IfOk result (λ x. length x.1.now < length tokens.now) }
 {
     let (params, rest) = params(source, tokens)?;
     let rest = mark(Mark::Begin, rest)?;
     let (body, rest) = steps(source, rest)?;
-    let (end, rest) = closing(rest)?;
+    let (end, rest) = placed_mark(Mark::End, rest)?;
     let code = Code {
         result: Sort::Void,
         name,
@@ -181,6 +252,7 @@ fn constructor<'a>(
 }
 
 /// A method behind its name.
+#[tactic(auto, unfolding(crate::specs::Reading::method_at))]
 fn method<'a>(
     source: Source<'_>,
     depth: u32,
@@ -188,14 +260,15 @@ fn method<'a>(
     name: Word,
     tokens: &'a [Token],
 ) -> Result<(Member, &'a [Token]), ReadFault>
-    ensures { IfOk result (λ x. length x.1.now < length tokens.now) }
+    ensures reads { Gives (λ x. x.0) (λ x. x.1.now) result (method_at source.entry.text.now depth sort name tokens.now) }
+    ensures shorter { IfOk result (λ x. length x.1.now < length tokens.now) }
 {
     let (params, rest) = params(source, tokens)?;
     let rest = mark(Mark::Begin, rest)?;
     let (clauses, rest) = clauses(source, depth, rest)?;
     let (body, rest) = steps(source, rest)?;
     let (value, rest) = returned(source, rest)?;
-    let (end, rest) = closing(rest)?;
+    let (end, rest) = placed_mark(Mark::End, rest)?;
     let code = Code {
         result: sort,
         name,
@@ -208,22 +281,14 @@ fn method<'a>(
     Ok((Member::Method(code), rest))
 }
 
-/// The place of a closing brace.
-fn closing(tokens: &[Token]) -> Result<(Place, &[Token]), ReadFault>
-    ensures { IfOk result (λ x. length x.1.now < length tokens.now) }
-{
-    match next(tokens) {
-        Some((token, rest)) if token.kind == Kind::Mark(Mark::End) => Ok((token.place, rest)),
-        _ => Err(ReadFault::Syntax(tokens.len())),
-    }
-}
-
 /// `"(" params? ")"`
+#[tactic(auto, unfolding(crate::specs::Reading::params_at))]
 fn params<'a>(
     source: Source<'_>,
     tokens: &'a [Token],
 ) -> Result<(Items<Param>, &'a [Token]), ReadFault>
-    ensures { IfOk result (λ x. length x.1.now < length tokens.now) }
+    ensures reads { Gives (λ x. x.0) (λ x. x.1.now) result (params_at source.entry.text.now tokens.now) }
+    ensures shorter { IfOk result (λ x. length x.1.now < length tokens.now) }
 {
     let rest = mark(Mark::Open, tokens)?;
     let (found, rest) = maybe_params(source, rest)?;
@@ -235,11 +300,22 @@ fn maybe_params<'a>(
     source: Source<'_>,
     tokens: &'a [Token],
 ) -> Result<(Items<Param>, &'a [Token]), ReadFault>
-    ensures { IfOk result (λ x. length x.1.now ≤ length tokens.now) }
+    ensures reads { Gives (λ x. x.0) (λ x. x.1.now) result (listed_at type_starts (param_at source.entry.text.now) tokens.now) }
+    ensures shorter { IfOk result (λ x. length x.1.now ≤ length tokens.now) }
+{
+    if begins_param(tokens) {
+        some_params(source, tokens)
+    } else {
+        Ok((Items::new(source.alloc), tokens))
+    }
+}
+
+fn begins_param(tokens: &[Token]) -> bool
+    ensures { result ≡ begins type_starts tokens.now }
 {
     match front(tokens) {
-        Some((kind, _)) if begins_sort(kind) => some_params(source, tokens),
-        _ => Ok((Items::new(source.alloc), tokens)),
+        Some((kind, _)) => is_sort_start(kind),
+        None => false,
     }
 }
 
@@ -248,7 +324,8 @@ fn some_params<'a>(
     source: Source<'_>,
     tokens: &'a [Token],
 ) -> Result<(Items<Param>, &'a [Token]), ReadFault>
-    ensures { IfOk result (λ x. length x.1.now < length tokens.now) }
+    ensures reads { Gives (λ x. x.0) (λ x. x.1.now) result (commas_at (param_at source.entry.text.now) tokens.now) }
+    ensures shorter { IfOk result (λ x. length x.1.now < length tokens.now) }
 {
     let mut found = Items::new(source.alloc);
     let (first, rest) = param(source, tokens)?;
@@ -258,11 +335,14 @@ fn some_params<'a>(
     Ok((found, rest))
 }
 
+/// `("," param)*`
+#[tactic(auto, using(cv_read::proofs::Along::starts, cv_read::proofs::Along::ends, cv_read::proofs::Along::stops, cv_read::proofs::Along::deepens))]
 fn more_params<'a>(
     source: Source<'_>,
     tokens: &'a [Token],
 ) -> Result<(Items<Param>, &'a [Token]), ReadFault>
-    ensures { IfOk result (λ x. length x.1.now ≤ length tokens.now) }
+    ensures reads { Gives (λ x. x.0) (λ x. x.1.now) result (more_at (param_at source.entry.text.now) tokens.now) }
+    ensures shorter { IfOk result (λ x. length x.1.now ≤ length tokens.now) }
 {
     let mut found = Items::new(source.alloc);
     let mut rest = tokens;
@@ -280,21 +360,24 @@ fn next_param<'a>(
     source: Source<'_>,
     tokens: &'a [Token],
 ) -> Result<(Option<Param>, &'a [Token]), ReadFault>
+    ensures reads { Gives (λ x. x.0) (λ x. x.1.now) result (next_at (param_at source.entry.text.now) tokens.now) }
     ensures shorter { IfOk result (λ x. length x.1.now ≤ length tokens.now) }
     ensures takes { IfOk result (λ x. IsSome x.0 → length x.1.now < length tokens.now) }
 {
-    match front(tokens) {
-        Some((Kind::Mark(Mark::Comma), after)) => {
+    match after_mark(Mark::Comma, tokens) {
+        Some(after) => {
             let (item, rest) = param(source, after)?;
             Ok((Some(item), rest))
         }
-        _ => Ok((None, tokens)),
+        None => Ok((None, tokens)),
     }
 }
 
 /// `(opaque | Name) Name`
+#[tactic(auto, unfolding(crate::specs::Reading::param_at))]
 fn param<'a>(source: Source<'_>, tokens: &'a [Token]) -> Result<(Param, &'a [Token]), ReadFault>
-    ensures { IfOk result (λ x. length x.1.now < length tokens.now) }
+    ensures reads { Gives (λ x. x.0) (λ x. x.1.now) result (param_at source.entry.text.now tokens.now) }
+    ensures shorter { IfOk result (λ x. length x.1.now < length tokens.now) }
 {
     let (sort, rest) = param_sort(source, tokens)?;
     let (name, rest) = name(source, rest)?;
@@ -302,19 +385,18 @@ fn param<'a>(source: Source<'_>, tokens: &'a [Token]) -> Result<(Param, &'a [Tok
 }
 
 fn param_sort<'a>(source: Source<'_>, tokens: &'a [Token]) -> Result<(Sort, &'a [Token]), ReadFault>
-    ensures { IfOk result (λ x. length x.1.now < length tokens.now) }
+    ensures reads { Gives (λ x. x.0) (λ x. x.1.now) result (type_at source.entry.text.now tokens.now) }
+    ensures shorter { IfOk result (λ x. length x.1.now < length tokens.now) }
 {
-    match front(tokens) {
-        Some((Kind::Key(word), rest)) => match opaque(word) {
-            Some(kind) => Ok((Sort::Opaque(kind), rest)),
-            None => Err(ReadFault::Syntax(tokens.len())),
-        },
-        _ => class_sort(source, tokens),
+    match after_opaque(tokens) {
+        Some((kind, rest)) => Ok((Sort::Opaque(kind), rest)),
+        None => class_sort(source, tokens),
     }
 }
 
 fn class_sort<'a>(source: Source<'_>, tokens: &'a [Token]) -> Result<(Sort, &'a [Token]), ReadFault>
-    ensures { IfOk result (λ x. length x.1.now < length tokens.now) }
+    ensures reads { Gives (λ x. x.0) (λ x. x.1.now) result (class_type_at source.entry.text.now tokens.now) }
+    ensures shorter { IfOk result (λ x. length x.1.now < length tokens.now) }
 {
     let (class, rest) = name(source, tokens)?;
     Ok((Sort::Class(class), rest))

@@ -1,27 +1,35 @@
 //! Paths, arguments and values.
-ghost use Rattle.std.specs.Prelude.{◌<◌, ◌≤◌, length, IfOk, IsSome};
+ghost use Rattle.std.specs.Prelude.{◌≡◌, ◌<◌, ◌≤◌, Some, None, length, IfOk, IsSome};
+ghost use Rattle.easl_model.specs.declared.token.Mark.TheVariants as mark;
+ghost use Rattle.easl_model.specs.declared.token.Key.TheVariants as key;
+ghost use Rattle.cv_read.specs.Read.{Gives, begins, is_mark, behind_mark, step_at, items_at, commas_at, more_at, listed_at, next_at};
+ghost use Rattle.easl_parser.specs.Reading.{field_at, path_of, path_at, named_path_at, path_starts, arg_starts, literal_arg_at, path_arg_at, arg_at, args_at, new_behind, path_value_at, value_at};
 
-use cv_read::{ReadFault, Source, front, is_literal, literal, mark, name, next};
+use cv_read::{
+    ReadFault, Source, after_mark, begins_literal, front, is_literal, literal, mark, name,
+    placed_key,
+};
 use easl_model::{Arg, Key, Kind, Mark, New, Path, Place, Token, Value, Word};
 use sqlite_items::Items;
 
 /// `("this" | Name) ("." Name)*`
+#[tactic(auto, unfolding(crate::specs::Reading::path_at))]
 pub(crate) fn path<'a>(
     source: Source<'_>,
     tokens: &'a [Token],
 ) -> Result<(Path, &'a [Token]), ReadFault>
-    ensures { IfOk result (λ x. length x.1.now < length tokens.now) }
+    ensures reads { Gives (λ x. x.0) (λ x. x.1.now) result (path_at source.entry.text.now tokens.now) }
+    ensures shorter { IfOk result (λ x. length x.1.now < length tokens.now) }
 {
-    match next(tokens) {
-        Some((token, after)) if token.kind == Kind::Key(Key::This) => {
-            path_of(source, None, token.place, after)
-        }
-        _ => named_path(source, tokens),
+    match placed_key(Key::This, tokens) {
+        Some((place, rest)) => path_of(source, None, place, rest),
+        None => named_path(source, tokens),
     }
 }
 
 fn named_path<'a>(source: Source<'_>, tokens: &'a [Token]) -> Result<(Path, &'a [Token]), ReadFault>
-    ensures { IfOk result (λ x. length x.1.now < length tokens.now) }
+    ensures reads { Gives (λ x. x.0) (λ x. x.1.now) result (named_path_at source.entry.text.now tokens.now) }
+    ensures shorter { IfOk result (λ x. length x.1.now < length tokens.now) }
 {
     let (head, rest) = name(source, tokens)?;
     let place = head.place;
@@ -35,7 +43,8 @@ pub(crate) fn path_of<'a>(
     place: Place,
     tokens: &'a [Token],
 ) -> Result<(Path, &'a [Token]), ReadFault>
-    ensures { IfOk result (λ x. length x.1.now ≤ length tokens.now) }
+    ensures reads { Gives (λ x. x.0) (λ x. x.1.now) result (path_of source.entry.text.now head place tokens.now) }
+    ensures shorter { IfOk result (λ x. length x.1.now ≤ length tokens.now) }
 {
     let (fields, rest) = fields(source, tokens)?;
     Ok((
@@ -49,11 +58,13 @@ pub(crate) fn path_of<'a>(
 }
 
 /// `("." Name)*`
+#[tactic(auto, using(cv_read::proofs::Along::starts, cv_read::proofs::Along::ends, cv_read::proofs::Along::stops, cv_read::proofs::Along::deepens))]
 fn fields<'a>(
     source: Source<'_>,
     tokens: &'a [Token],
 ) -> Result<(Items<Word>, &'a [Token]), ReadFault>
-    ensures { IfOk result (λ x. length x.1.now ≤ length tokens.now) }
+    ensures reads { Gives (λ x. x.0) (λ x. x.1.now) result (items_at (field_at source.entry.text.now) tokens.now) }
+    ensures shorter { IfOk result (λ x. length x.1.now ≤ length tokens.now) }
 {
     let mut found = Items::new(source.alloc);
     let mut rest = tokens;
@@ -71,39 +82,42 @@ fn maybe_field<'a>(
     source: Source<'_>,
     tokens: &'a [Token],
 ) -> Result<(Option<Word>, &'a [Token]), ReadFault>
+    ensures reads { Gives (λ x. x.0) (λ x. x.1.now) result (field_at source.entry.text.now tokens.now) }
     ensures shorter { IfOk result (λ x. length x.1.now ≤ length tokens.now) }
     ensures takes { IfOk result (λ x. IsSome x.0 → length x.1.now < length tokens.now) }
 {
-    match front(tokens) {
-        Some((Kind::Mark(Mark::Dot), after)) => {
+    match after_mark(Mark::Dot, tokens) {
+        Some(after) => {
             let (item, rest) = name(source, after)?;
             Ok((Some(item), rest))
         }
-        _ => Ok((None, tokens)),
+        None => Ok((None, tokens)),
     }
 }
 
 /// `path | "new" Name "(" args? ")"`
+#[tactic(auto, unfolding(crate::specs::Reading::value_at))]
 pub(crate) fn value<'a>(
     source: Source<'_>,
     tokens: &'a [Token],
 ) -> Result<(Value, &'a [Token]), ReadFault>
-    ensures { IfOk result (λ x. length x.1.now < length tokens.now) }
+    ensures reads { Gives (λ x. x.0) (λ x. x.1.now) result (value_at source.entry.text.now tokens.now) }
+    ensures shorter { IfOk result (λ x. length x.1.now < length tokens.now) }
 {
-    match next(tokens) {
-        Some((token, after)) if token.kind == Kind::Key(Key::New) => {
-            new_value(source, token.place, after)
-        }
-        _ => path_value(source, tokens),
+    match placed_key(Key::New, tokens) {
+        Some((place, rest)) => new_value(source, place, rest),
+        None => path_value(source, tokens),
     }
 }
 
+/// A construction behind its `new`.
 fn new_value<'a>(
     source: Source<'_>,
     place: Place,
     tokens: &'a [Token],
 ) -> Result<(Value, &'a [Token]), ReadFault>
-    ensures { IfOk result (λ x. length x.1.now < length tokens.now) }
+    ensures reads { Gives (λ x. x.0) (λ x. x.1.now) result (new_behind source.entry.text.now place tokens.now) }
+    ensures shorter { IfOk result (λ x. length x.1.now < length tokens.now) }
 {
     let (class, rest) = name(source, tokens)?;
     let (args, rest) = args(source, rest)?;
@@ -114,15 +128,18 @@ fn path_value<'a>(
     source: Source<'_>,
     tokens: &'a [Token],
 ) -> Result<(Value, &'a [Token]), ReadFault>
-    ensures { IfOk result (λ x. length x.1.now < length tokens.now) }
+    ensures reads { Gives (λ x. x.0) (λ x. x.1.now) result (path_value_at source.entry.text.now tokens.now) }
+    ensures shorter { IfOk result (λ x. length x.1.now < length tokens.now) }
 {
     let (path, rest) = path(source, tokens)?;
     Ok((Value::Path(path), rest))
 }
 
 /// `"(" args? ")"`
+#[tactic(auto, unfolding(crate::specs::Reading::args_at))]
 fn args<'a>(source: Source<'_>, tokens: &'a [Token]) -> Result<(Items<Arg>, &'a [Token]), ReadFault>
-    ensures { IfOk result (λ x. length x.1.now < length tokens.now) }
+    ensures reads { Gives (λ x. x.0) (λ x. x.1.now) result (args_at source.entry.text.now tokens.now) }
+    ensures shorter { IfOk result (λ x. length x.1.now < length tokens.now) }
 {
     let rest = mark(Mark::Open, tokens)?;
     let (found, rest) = maybe_args(source, rest)?;
@@ -134,16 +151,30 @@ fn maybe_args<'a>(
     source: Source<'_>,
     tokens: &'a [Token],
 ) -> Result<(Items<Arg>, &'a [Token]), ReadFault>
-    ensures { IfOk result (λ x. length x.1.now ≤ length tokens.now) }
+    ensures reads { Gives (λ x. x.0) (λ x. x.1.now) result (listed_at arg_starts (arg_at source.entry.text.now) tokens.now) }
+    ensures shorter { IfOk result (λ x. length x.1.now ≤ length tokens.now) }
 {
-    match front(tokens) {
-        Some((kind, _)) if begins_arg(kind) => some_args(source, tokens),
-        _ => Ok((Items::new(source.alloc), tokens)),
+    if begins_arg(tokens) {
+        some_args(source, tokens)
+    } else {
+        Ok((Items::new(source.alloc), tokens))
     }
 }
 
-fn begins_arg(kind: Kind) -> bool {
-    kind == Kind::Name || kind == Kind::Key(Key::This) || is_literal(kind)
+fn begins_arg(tokens: &[Token]) -> bool
+    ensures { result ≡ begins arg_starts tokens.now }
+{
+    match front(tokens) {
+        Some((kind, _)) => is_literal(kind) || is_path_start(kind),
+        None => false,
+    }
+}
+
+/// Whether a path can begin with a token of this kind.
+pub(crate) fn is_path_start(kind: Kind) -> bool
+    ensures { result ≡ path_starts kind }
+{
+    matches!(kind, Kind::Name | Kind::Key(Key::This))
 }
 
 /// `arg ("," arg)*`
@@ -151,7 +182,8 @@ fn some_args<'a>(
     source: Source<'_>,
     tokens: &'a [Token],
 ) -> Result<(Items<Arg>, &'a [Token]), ReadFault>
-    ensures { IfOk result (λ x. length x.1.now < length tokens.now) }
+    ensures reads { Gives (λ x. x.0) (λ x. x.1.now) result (commas_at (arg_at source.entry.text.now) tokens.now) }
+    ensures shorter { IfOk result (λ x. length x.1.now < length tokens.now) }
 {
     let mut found = Items::new(source.alloc);
     let (first, rest) = arg(source, tokens)?;
@@ -161,11 +193,14 @@ fn some_args<'a>(
     Ok((found, rest))
 }
 
+/// `("," arg)*`
+#[tactic(auto, using(cv_read::proofs::Along::starts, cv_read::proofs::Along::ends, cv_read::proofs::Along::stops, cv_read::proofs::Along::deepens))]
 fn more_args<'a>(
     source: Source<'_>,
     tokens: &'a [Token],
 ) -> Result<(Items<Arg>, &'a [Token]), ReadFault>
-    ensures { IfOk result (λ x. length x.1.now ≤ length tokens.now) }
+    ensures reads { Gives (λ x. x.0) (λ x. x.1.now) result (more_at (arg_at source.entry.text.now) tokens.now) }
+    ensures shorter { IfOk result (λ x. length x.1.now ≤ length tokens.now) }
 {
     let mut found = Items::new(source.alloc);
     let mut rest = tokens;
@@ -183,37 +218,43 @@ fn next_arg<'a>(
     source: Source<'_>,
     tokens: &'a [Token],
 ) -> Result<(Option<Arg>, &'a [Token]), ReadFault>
+    ensures reads { Gives (λ x. x.0) (λ x. x.1.now) result (next_at (arg_at source.entry.text.now) tokens.now) }
     ensures shorter { IfOk result (λ x. length x.1.now ≤ length tokens.now) }
     ensures takes { IfOk result (λ x. IsSome x.0 → length x.1.now < length tokens.now) }
 {
-    match front(tokens) {
-        Some((Kind::Mark(Mark::Comma), after)) => {
+    match after_mark(Mark::Comma, tokens) {
+        Some(after) => {
             let (item, rest) = arg(source, after)?;
             Ok((Some(item), rest))
         }
-        _ => Ok((None, tokens)),
+        None => Ok((None, tokens)),
     }
 }
 
 /// `path | literal`
+#[tactic(auto, unfolding(crate::specs::Reading::arg_at))]
 fn arg<'a>(source: Source<'_>, tokens: &'a [Token]) -> Result<(Arg, &'a [Token]), ReadFault>
-    ensures { IfOk result (λ x. length x.1.now < length tokens.now) }
+    ensures reads { Gives (λ x. x.0) (λ x. x.1.now) result (arg_at source.entry.text.now tokens.now) }
+    ensures shorter { IfOk result (λ x. length x.1.now < length tokens.now) }
 {
-    match front(tokens) {
-        Some((kind, _)) if is_literal(kind) => literal_arg(source, tokens),
-        _ => path_arg(source, tokens),
+    if begins_literal(tokens) {
+        literal_arg(source, tokens)
+    } else {
+        path_arg(source, tokens)
     }
 }
 
 fn literal_arg<'a>(source: Source<'_>, tokens: &'a [Token]) -> Result<(Arg, &'a [Token]), ReadFault>
-    ensures { IfOk result (λ x. length x.1.now < length tokens.now) }
+    ensures reads { Gives (λ x. x.0) (λ x. x.1.now) result (literal_arg_at source.entry.text.now tokens.now) }
+    ensures shorter { IfOk result (λ x. length x.1.now < length tokens.now) }
 {
     let (word, rest) = literal(source, tokens)?;
     Ok((Arg::Literal(word), rest))
 }
 
 fn path_arg<'a>(source: Source<'_>, tokens: &'a [Token]) -> Result<(Arg, &'a [Token]), ReadFault>
-    ensures { IfOk result (λ x. length x.1.now < length tokens.now) }
+    ensures reads { Gives (λ x. x.0) (λ x. x.1.now) result (path_arg_at source.entry.text.now tokens.now) }
+    ensures shorter { IfOk result (λ x. length x.1.now < length tokens.now) }
 {
     let (path, rest) = path(source, tokens)?;
     Ok((Arg::Path(path), rest))

@@ -1,10 +1,15 @@
 //! A whole specification: its tokens, its brackets, its syntax.
-ghost use Rattle.std.specs.Prelude.{◌<◌, ◌≤◌, length, IfOk, IsSome};
+ghost use Rattle.std.specs.Prelude.{◌≡◌, ◌<◌, ◌≤◌, length, IfOk, IsSome};
+ghost use Rattle.easl_model.specs.declared.token.Key.TheVariants as key;
+ghost use Rattle.cv_read.specs.Read.{Gives, GivesWhole, is_key, step_at, whole_at};
+ghost use Rattle.easl_model.specs.Spelling.{OneTree};
+ghost use Rattle.easl_parser.specs.Answers.{Answers, OneAnswer, Finds};
+ghost use Rattle.easl_parser.specs.Reading.{class_at, classes_at, spec_at};
 
 use crate::members::class;
 use cv_lex::{TextFault, tokens};
-use cv_read::{ReadFault, Source, front, nesting};
-use easl_model::{Class, Key, Kind, Place, Spec, Token};
+use cv_read::{ReadFault, Source, begins_key, nesting};
+use easl_model::{Class, Key, Place, Spec, Token};
 use sqlite_items::Items;
 use std::alloc::Global;
 use std::str;
@@ -17,41 +22,80 @@ const MOST_CONDITIONS: u32 = 63;
 /// are no tokens of the form that is built so far, `Limit` of nesting at the bracket that makes a 65th open one,
 /// `Syntax` where the tokens before the place begin a specification and with the next one begin none, or at the
 /// end of the text.
+#[tactic(auto, using(crate::proofs::Theorems::no_tokens, crate::proofs::Theorems::no_text, crate::proofs::Theorems::tree_answers, crate::proofs::Theorems::fault_answers))]
 pub fn read_spec(alloc: Global, text: &[u8]) -> Result<Spec, TextFault>
     requires { length text.now ≤ 65536 }
+    ensures { Answers text.now result }
 {
     let tokens = tokens(alloc, text)?;
     let Ok(text) = str::from_utf8(text) else {
         return Err(TextFault::NotBuilt);
     };
     let source = Source { alloc, text };
-    match spec(source, tokens.list.as_slice(), tokens.end) {
+    match spec(source, tokens.end, tokens.list.as_slice()) {
         Ok(spec) => Ok(spec),
         Err(fault) => Err(fault.of_text(&tokens)),
     }
 }
 
-/// `class class*`, which all of these tokens spell.
-fn spec(source: Source<'_>, tokens: &[Token], end: Place) -> Result<Spec, ReadFault> {
+/// Tokens spell at most one specification.
+#[tactic(auto, using(crate::proofs::Theorems::one_tree))]
+pub fn one_tree()
+    ensures { OneTree }
+{}
+
+/// Reading a text has one answer, want of memory aside.
+#[tactic(auto, using(crate::proofs::Theorems::one_answer))]
+pub fn one_answer()
+    ensures { OneAnswer }
+{}
+
+/// The specification that all of these tokens spell.
+#[tactic(auto, using(crate::proofs::Theorems::found, crate::proofs::Theorems::too_deep))]
+fn spec(source: Source<'_>, end: Place, tokens: &[Token]) -> Result<Spec, ReadFault>
+    ensures { Finds source.entry.text.now end tokens.now result }
+{
     nesting(tokens)?;
-    let mut classes = Items::new(source.alloc);
-    let (first, rest) = class(source, MOST_CONDITIONS, tokens)?;
-    let (more, rest) = more_classes(source, rest)?;
-    classes.push(first)?;
-    classes.append(more)?;
+    whole(source, end, tokens)
+}
+
+/// `class class*`, behind which nothing is left.
+fn whole(source: Source<'_>, end: Place, tokens: &[Token]) -> Result<Spec, ReadFault>
+    ensures { GivesWhole result (whole_at (spec_at source.entry.text.now MOST_CONDITIONS end) tokens.now) }
+{
+    let (spec, rest) = classes(source, end, tokens)?;
     if rest.is_empty() {
-        Ok(Spec { classes, end })
+        Ok(spec)
     } else {
         Err(ReadFault::Syntax(rest.len()))
     }
 }
 
+/// `class class*`
+#[tactic(auto, unfolding(crate::specs::Reading::spec_at))]
+fn classes<'a>(
+    source: Source<'_>,
+    end: Place,
+    tokens: &'a [Token],
+) -> Result<(Spec, &'a [Token]), ReadFault>
+    ensures { Gives (λ x. x.0) (λ x. x.1.now) result (spec_at source.entry.text.now MOST_CONDITIONS end tokens.now) }
+{
+    let mut classes = Items::new(source.alloc);
+    let (first, rest) = class(source, MOST_CONDITIONS, tokens)?;
+    let (more, rest) = more_classes(source, rest)?;
+    classes.push(first)?;
+    classes.append(more)?;
+    Ok((Spec { classes, end }, rest))
+}
+
 /// `class*`
+#[tactic(auto, using(cv_read::proofs::Along::starts, cv_read::proofs::Along::ends, cv_read::proofs::Along::stops, cv_read::proofs::Along::deepens))]
 fn more_classes<'a>(
     source: Source<'_>,
     tokens: &'a [Token],
 ) -> Result<(Items<Class>, &'a [Token]), ReadFault>
-    ensures { IfOk result (λ x. length x.1.now ≤ length tokens.now) }
+    ensures reads { Gives (λ x. x.0) (λ x. x.1.now) result (classes_at source.entry.text.now MOST_CONDITIONS tokens.now) }
+    ensures shorter { IfOk result (λ x. length x.1.now ≤ length tokens.now) }
 {
     let mut found = Items::new(source.alloc);
     let mut rest = tokens;
@@ -69,14 +113,14 @@ fn maybe_class<'a>(
     source: Source<'_>,
     tokens: &'a [Token],
 ) -> Result<(Option<Class>, &'a [Token]), ReadFault>
+    ensures reads { Gives (λ x. x.0) (λ x. x.1.now) result (step_at (is_key key.Class) (class_at source.entry.text.now MOST_CONDITIONS) tokens.now) }
     ensures shorter { IfOk result (λ x. length x.1.now ≤ length tokens.now) }
     ensures takes { IfOk result (λ x. IsSome x.0 → length x.1.now < length tokens.now) }
 {
-    match front(tokens) {
-        Some((Kind::Key(Key::Class), _)) => {
-            let (item, rest) = class(source, MOST_CONDITIONS, tokens)?;
-            Ok((Some(item), rest))
-        }
-        _ => Ok((None, tokens)),
+    if begins_key(Key::Class, tokens) {
+        let (item, rest) = class(source, MOST_CONDITIONS, tokens)?;
+        Ok((Some(item), rest))
+    } else {
+        Ok((None, tokens))
     }
 }

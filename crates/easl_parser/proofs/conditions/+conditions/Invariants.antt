@@ -1,4 +1,6 @@
-use Rattle.std.proofs.Common.{◌≤◌, ◌+◌, ◌*◌, length}
+use Rattle.std.proofs.Common.{◌+◌, ◌*◌, length}
+use Rattle.cv_read.proofs.Along.{IsAlong}
+use Rattle.easl_parser.specs.Reading.{atom_at, all_at, and_by, or_by}
 use Rattle.easl_parser.proofs.conditions.+conditions.Given as goal
 
 abbrev pub decreases-any : goal.decreases-any
@@ -29,13 +31,13 @@ abbrev pub decreases-any_within : goal.decreases-any_within
 decreases-any_within l = 10 * l.depth + 8
 
 abbrev pub invariant-and_atoms-each : goal.invariant-and_atoms-each
-invariant-and_atoms-each l = length l.rest ≤ length l.fn.tokens
+invariant-and_atoms-each l = IsAlong (and_by (atom_at l.source.text.now l.depth)) l.fn.tokens l.rest l.found
 
 abbrev pub decreases-and_atoms-each : goal.decreases-and_atoms-each
 decreases-and_atoms-each l = length l.rest
 
 abbrev pub invariant-or_alls-each : goal.invariant-or_alls-each
-invariant-or_alls-each l = length l.rest ≤ length l.fn.tokens
+invariant-or_alls-each l = IsAlong (or_by (all_at l.source.text.now l.depth)) l.fn.tokens l.rest l.found
 
 abbrev pub decreases-or_alls-each : goal.decreases-or_alls-each
 decreases-or_alls-each l = length l.rest

@@ -1,8 +1,10 @@
-use Rattle.std.proofs.Common.{◌≤◌, length}
+use Rattle.std.proofs.Common.{length}
+use Rattle.cv_read.proofs.Along.{IsAlong}
+use Rattle.easl_parser.specs.Reading.{field_at}
 use Rattle.easl_parser.proofs.paths.fields.Given as goal
 
 abbrev pub invariant-each : goal.invariant-each
-invariant-each l = length l.rest ≤ length l.fn.tokens
+invariant-each l = IsAlong (field_at l.source.text.now) l.fn.tokens l.rest l.found
 
 abbrev pub decreases-each : goal.decreases-each
 decreases-each l = length l.rest
