@@ -1,7 +1,7 @@
 //! Bodies, executed statement by statement. A constructor that is called is executed in place on its fresh object.
 ghost use Rattle.std.specs.Prelude.{◌≡◌, ◌+◌, ◌-◌, ◌^◌, ◌<◌, ◌≤◌, [], ◌∷◌, ◌++◌, All, length, map, slice_set, vec_len, vec_capacity, IfSome};
-ghost use Rattle.easl_model.specs.Form.{IsInRange, ActInRange, SourceInRange};
-ghost use Rattle.easl_model.specs.Limits.{KeepsLimits, ActHasFewArguments, HasFewArguments};
+ghost use Rattle.easl_model.specs.Form.{ActInRange, SourceInRange};
+ghost use Rattle.easl_model.specs.Limits.{ActHasFewArguments, HasFewArguments};
 ghost use Rattle.easl_model.specs.Statements.{statement_of, statements_of};
 ghost use Rattle.easl_heap.specs.Heap.{fresh};
 ghost use Rattle.easl_heap.specs.Heap as heap;
@@ -31,14 +31,12 @@ pub struct Done {
 }
 
 /// Executes a method on its arguments. A constructor makes an object of its class.
-#[tactic(auto, using(crate::proofs::InRange::body_in_range, crate::proofs::InRange::value_in_range, crate::proofs::InRange::class_within))]
 pub fn execute(objects: &mut Vec<Object>, spec: &CheckedSpec, method: u32, args: &[u32]) -> Done
     requires method { method < length spec.now.methods }
     requires args { HasArguments spec.now method args.now }
     requires room { HasRoom objects.old 1025 }
     ensures grows { Grows 1 objects.old 0 objects.new result.steps }
-    ensures body { KeepsLimits spec.now
-        → outcome objects.new.items result.result result.steps
+    ensures body { outcome objects.new.items result.result result.steps
         ≡ told.body spec.now method args.now objects.old.items }
 {
     let called = spec.method(method);
@@ -62,13 +60,11 @@ fn returned(
     slots: &[u32],
     steps: u32,
 ) -> Done
-    requires in_range { IsInRange spec.now }
     requires source { IfSome source.now (SourceInRange (length spec.now.classes)) }
     requires steps { steps ≤ 1024 }
     requires room { HasRoom objects.old (1025 - steps) }
     ensures grows { Grows 1 objects.old steps objects.new result.steps }
-    ensures gives { KeepsLimits spec.now
-        → IfSome source.now HasFewArguments
+    ensures gives { IfSome source.now HasFewArguments
         → Gives (outcome objects.new.items result.result result.steps)
         (told.returned (made spec.now depth) source.now (moment objects.old.items slots.now steps)) }
 {
@@ -93,13 +89,11 @@ fn run(
     slots: &mut Slots,
     steps: u32,
 ) -> u32
-    requires in_range { IsInRange spec.now }
     requires acts { All (ActInRange (length spec.now.classes)) acts.now }
     requires steps { steps ≤ 1024 }
     requires room { HasRoom objects.old (1024 - steps) }
     ensures grows { Grows 0 objects.old steps objects.new result }
-    ensures comes { KeepsLimits spec.now
-        → Fits slots.old.items acts.now
+    ensures comes { Fits slots.old.items acts.now
         → Comes (moment objects.new.items slots.new.items result)
         (told.run (made spec.now depth) (statements_of acts.now) (moment objects.old.items slots.old.items steps)) }
 {
@@ -123,13 +117,11 @@ fn step(
     slots: &mut Slots,
     steps: u32,
 ) -> u32
-    requires in_range { IsInRange spec.now }
     requires act { ActInRange (length spec.now.classes) act.now }
     requires steps { steps ≤ 1024 }
     requires room { HasRoom objects.old (1025 - steps) }
     ensures grows { Grows 1 objects.old steps objects.new result }
-    ensures comes { KeepsLimits spec.now
-        → ActHasFewArguments act.now
+    ensures comes { ActHasFewArguments act.now
         → array_vec_len slots.old < 69
         → Comes (moment objects.new.items slots.new.items result)
         (told.step (made spec.now depth) (statement_of act.now) (moment objects.old.items slots.old.items steps)) }
@@ -164,13 +156,11 @@ fn value(
     slots: &[u32],
     steps: u32,
 ) -> (u32, u32)
-    requires in_range { IsInRange spec.now }
     requires source { SourceInRange (length spec.now.classes) source.now }
     requires steps { steps ≤ 1024 }
     requires room { HasRoom objects.old (1025 - steps) }
     ensures grows { Grows 1 objects.old steps objects.new result.1 }
-    ensures gives { KeepsLimits spec.now
-        → HasFewArguments source.now
+    ensures gives { HasFewArguments source.now
         → Gives (outcome objects.new.items result.0 result.1)
         (told.value (made spec.now depth) source.now (moment objects.old.items slots.now steps)) }
 {
@@ -186,7 +176,6 @@ fn value(
 /// Makes an object of the class and executes the class's constructor on it. Constructors stand in one another at most
 /// as deep as there are classes, since none leads back to itself.
 #[cycle(body)]
-#[tactic(auto, using(crate::proofs::InRange::constructor_within, crate::proofs::InRange::body_in_range))]
 fn construct(
     objects: &mut Vec<Object>,
     spec: &CheckedSpec,
@@ -195,13 +184,11 @@ fn construct(
     args: &[u32],
     steps: u32,
 ) -> (u32, u32)
-    requires in_range { IsInRange spec.now }
     requires class { class < length spec.now.classes }
     requires steps { steps ≤ 1024 }
     requires room { HasRoom objects.old (1025 - steps) }
     ensures grows { Grows 1 objects.old steps objects.new result.1 }
-    ensures gives { KeepsLimits spec.now
-        → length args.now ≤ 4
+    ensures gives { length args.now ≤ 4
         → Gives (outcome objects.new.items result.0 result.1)
         (made spec.now depth class args.now objects.old.items steps) }
 {
@@ -217,9 +204,7 @@ fn construct(
 }
 
 /// Puts a fresh object behind the others, and answers its number.
-#[tactic(auto, using(crate::proofs::InRange::fields_few))]
 fn add(objects: &mut Vec<Object>, spec: &CheckedSpec, class: u32) -> u32
-    requires in_range { IsInRange spec.now }
     requires class { class < length spec.now.classes }
     requires room { HasRoom objects.old 1 }
     ensures number { result ≡ length objects.new.items }

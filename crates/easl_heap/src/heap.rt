@@ -32,7 +32,6 @@ impl Heap {
     ghost use Rattle.easl_heap.specs.Heap.{get};
     ghost use Rattle.easl_heap.specs.Clause as told;
     ghost use Rattle.easl_heap.specs.Body.{outcome, body, HasArguments};
-    ghost use Rattle.easl_model.specs.Limits.{KeepsLimits};
 
     /// An empty heap. It takes no memory, and keeps the allocator for later.
     pub fn new(alloc: Global) -> Heap
@@ -60,7 +59,7 @@ impl Heap {
     pub fn requires_of(&self, spec: &CheckedSpec, method: u32, args: &[u32]) -> Option<u32>
         requires method { method < length spec.now.methods }
         requires args { HasArguments spec.now method args.now }
-        ensures first { KeepsLimits spec.now → result ≡ told.requires_of self.now spec.now method args.now }
+        ensures { result ≡ told.requires_of self.now spec.now method args.now }
     {
         let called = spec.method(method);
         if called.constructor {
@@ -80,8 +79,7 @@ impl Heap {
         requires method { method < length spec.now.methods }
         requires args { HasArguments spec.now method args.now }
         requires room { length self.old + 1025 < 2 ^ 32 }
-        ensures body { KeepsLimits spec.now
-            → IfOk result (λ d. outcome self.new d.result d.steps ≡ body spec.now method args.now self.old) }
+        ensures body { IfOk result (λ d. outcome self.new d.result d.steps ≡ body spec.now method args.now self.old) }
         ensures err { OnErr result (self.new ≡ self.old) }
         ensures grown { length self.new ≤ length self.old + 1025 }
         ensures steps { IfOk result (λ d. d.steps ≤ 1024) }

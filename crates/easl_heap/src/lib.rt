@@ -6,8 +6,6 @@ mod clause;
 mod heap;
 mod object;
 mod paths;
-#[cfg(test)]
-mod tests;
 
 pub use body::Done;
 pub use heap::Heap;

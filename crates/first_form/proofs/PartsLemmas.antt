@@ -1,21 +1,45 @@
 -- Parts of a checked form, one class after another.
-use Rattle.std.proofs.Common.{◌≡◌, ℕ, ◌+◌, ◌<◌, ◌≤◌, List, [], ◌∷◌, ◌++◌, All, length, arith, length-append}
+use Rattle.std.proofs.Common.{inl, inr, ◌≡◌, ℕ, ◌+◌, ◌<◌, ◌≤◌, List, [], ◌∷◌, ◌++◌, All, length, arith, ap, sym, ◌∙◌, subst, length-append}
+use Rattle.std.specs.Prelude.{Some, slice_get}
 use Rattle.std.proofs.lemmas.List.Elements.{All-push}
-use Rattle.easl_model.specs.Form.{ClassInRange, MethodInRange}
+use Rattle.easl_model.specs.Form.{ClassInRange}
 use Rattle.easl_model.specs.declared.form.ClassForm.{ClassForm}
 use Rattle.easl_model.specs.declared.form.Method.{Method}
-use Rattle.first_form.specs.Parts.{FieldsInRange, PartsInRange}
+use Rattle.easl_model.specs.declared.tree.Spec.{Spec}
+use Rattle.first_form.specs.Parts.{ArePutTogether, FieldsInRange, HaveConstructors, IsGrown, MakesPlain, MethodFits}
+use Rattle.first_form.proofs.ListLemmas.{before_or_last, stands_next, stays_behind}
 
 -- with more methods a class stays in range
 class_stays : (classes few many : ℕ) (c : ClassForm) → few ≤ many → ClassInRange classes few c → ClassInRange classes many c
 class_stays classes few many c more r = record { named = r.named; few = r.few; fields = r.fields; made = omega (arith, r.made) }
 
-pub one_more_class : (classes done : ℕ) (forms : List ClassForm) (old new : List Method) (c : ClassForm) → PartsInRange classes done forms old → All (MethodInRange classes) new → length old < length new → length new ≤ length old + 65 → FieldsInRange classes c → c.constructor ≡ length old → PartsInRange classes (done + 1) (forms ++ c ∷ []) new
-one_more_class classes done forms old new c parts methods some few fields made = record {
-  counted = omega (arith, length-append forms (c ∷ []), parts.counted);
-  few = omega (arith, parts.few);
-  each_class = All-push (ClassInRange classes (length new)) forms c
-      (λ k d within. class_stays classes (length old) (length new) _ (omega arith) (parts.each_class k d within))
-      (record { named = fields.named; few = fields.few; fields = fields.fields; made = omega arith });
-  each_method = methods;
-}
+one_more_constructor : (spec : Spec) (forms : List ClassForm) (old new : List Method) (c : ClassForm) → HaveConstructors spec forms old → IsGrown spec (length forms) old new → c.constructor ≡ length old → HaveConstructors spec (forms ++ c ∷ []) new
+one_more_constructor spec forms old new c before grown made class d there =
+    elim (before_or_last forms c class d there) [
+      | inl e ↦
+          (let found = before class d e in
+          (found.0, rw grown.added (stays_behind old (grown.constructor ∷ grown.others) d.constructor found.0 found.1), found.2))
+      | inr e ↦ (
+        grown.constructor,
+        subst (λ n. slice_get new n ≡ Some grown.constructor) (sym made ∙ ap (λ (x : ClassForm). x.constructor) e.1) (rw grown.added (stands_next old grown.others grown.constructor)),
+        subst (λ n. MakesPlain spec n grown.constructor) (sym e.0) grown.makes,
+      )
+    ]
+
+grown_length : (spec : Spec) (class : ℕ) (old new : List Method) → IsGrown spec class old new → length old < length new
+grown_length spec class old new grown =
+    omega (arith, ap length grown.added, length-append old (grown.constructor ∷ grown.others))
+
+pub one_more_class : (spec : Spec) (done : ℕ) (forms : List ClassForm) (old new : List Method) (c : ClassForm) → ArePutTogether spec done forms old → All (MethodFits spec) new → IsGrown spec done old new → length new ≤ length old + 65 → FieldsInRange (length spec.classes) c → c.constructor ≡ length old → ArePutTogether spec (done + 1) (forms ++ c ∷ []) new
+one_more_class spec done forms old new c parts fits grown few fields made =
+    let classes = length spec.classes in
+    let some = grown_length spec done old new grown in
+    record {
+      counted = omega (arith, length-append forms (c ∷ []), parts.counted);
+      few = omega (arith, parts.few);
+      in_range = All-push (ClassInRange classes (length new)) forms c
+          (λ k d within. class_stays classes (length old) (length new) _ (omega arith) (parts.in_range k d within))
+          (record { named = fields.named; few = fields.few; fields = fields.fields; made = omega arith });
+      fits = fits;
+      constructors = one_more_constructor spec forms old new c parts.constructors (subst (λ n. IsGrown spec n old new) (sym parts.counted) grown) made;
+    }

@@ -1,8 +1,70 @@
 -- Parts of a checked form while it is put together.
-use Rattle.std.specs.Prelude.{◌≡◌, ℕ, ◌*◌, ◌<◌, ◌≤◌, List, All, length}
+use Rattle.std.specs.Prelude.{◌≡◌, ℕ, ◌*◌, ◌<◌, ◌≤◌, List, [], ◌∷◌, ◌++◌, All, IfSome, Some, None, length, slice_get}
 use Rattle.easl_model.specs.Form.{ClassInRange, MethodInRange}
+use Rattle.easl_model.specs.Limits.{ActHasFewArguments, HasFewArguments}
+use Rattle.easl_model.specs.Names.{members_of, constructor_in}
+use Rattle.easl_model.specs.declared.form.Act.{Act}
+use Rattle.easl_model.specs.declared.form.Act.TheVariants as act
 use Rattle.easl_model.specs.declared.form.ClassForm.{ClassForm}
 use Rattle.easl_model.specs.declared.form.Method.{Method}
+use Rattle.easl_model.specs.declared.form.Source.{Source}
+use Rattle.easl_model.specs.declared.form.Source.TheVariants.{Reach, Make}
+use Rattle.easl_model.specs.declared.tree.Class.{Class}
+use Rattle.easl_model.specs.declared.tree.Code.{Code}
+use Rattle.easl_model.specs.declared.tree.Member.{Member}
+use Rattle.easl_model.specs.declared.tree.Member.TheVariants as member
+use Rattle.easl_model.specs.declared.tree.Spec.{Spec}
+
+-- what the shape keeps of a constructor or a method
+pub record CodeIsShort (code : Code) : Type 0 where
+  pub params : length code.params ≤ 4
+  pub clauses : length code.clauses ≤ 16
+  pub body : length code.body ≤ 16
+
+abbrev pub MemberIsShort : Member → Type 0
+MemberIsShort (member.Field f) = Unit {0}
+MemberIsShort (member.Constructor code) = CodeIsShort code
+MemberIsShort (member.Method code) = CodeIsShort code
+
+abbrev pub ClassIsShort : Class → Type 0
+ClassIsShort c = All MemberIsShort c.members
+
+abbrev pub IsShort : Spec → Type 0
+IsShort spec = All ClassIsShort spec.classes
+
+-- no constructor is written in the class
+abbrev pub HasNoConstructor : Spec → ℕ → Type 0
+HasNoConstructor spec class = constructor_in (members_of spec class) ≡ None
+
+-- the value makes no object of a class with a constructor
+abbrev pub IsPlain : Spec → Source → Type 0
+IsPlain spec (Reach r) = Unit {0}
+IsPlain spec (Make class args) = HasNoConstructor spec class
+
+abbrev pub ActIsPlain : Spec → Act → Type 0
+ActIsPlain spec (act.Local v) = IsPlain spec v
+ActIsPlain spec (act.Change slot v) = IsPlain spec v
+ActIsPlain spec (act.Write target field v) = IsPlain spec v
+
+-- a method's numbers name what is there, and it is short
+pub record MethodFits (spec : Spec) (m : Method) : Type 0 where
+  pub in_range : MethodInRange (length spec.classes) m
+  pub clauses : length m.clauses ≤ 16
+  pub written : length m.body ≤ 16
+  pub body : All ActHasFewArguments m.body
+  pub value : IfSome m.value HasFewArguments
+
+-- what a class's constructor does: nothing where none is written
+pub record MakesPlain (spec : Spec) (class : ℕ) (m : Method) : Type 0 where
+  pub plain : All (ActIsPlain spec) m.body
+  pub idle : HasNoConstructor spec class → m.body ≡ []
+
+-- the class's constructor has come behind the methods, and then others
+pub record IsGrown (spec : Spec) (class : ℕ) (old new : List Method) : Type 0 where
+  pub constructor : Method
+  pub others : List Method
+  pub added : new ≡ old ++ constructor ∷ others
+  pub makes : MakesPlain spec class constructor
 
 -- a class's fields are within the limit, and of classes that are there
 pub record FieldsInRange (classes : ℕ) (c : ClassForm) : Type 0 where
@@ -10,9 +72,14 @@ pub record FieldsInRange (classes : ℕ) (c : ClassForm) : Type 0 where
   pub few : length c.field_classes ≤ 16
   pub fields : All (λ n. n < classes) c.field_classes
 
--- of so many classes the first so many stand, with their methods
-pub record PartsInRange (classes done : ℕ) (forms : List ClassForm) (methods : List Method) : Type 0 where
+-- the constructor of each class stands among the methods
+abbrev pub HaveConstructors : Spec → List ClassForm → List Method → Type 0
+HaveConstructors spec forms methods = (class : ℕ) (c : ClassForm) → slice_get forms class ≡ Some c → (m : Method) × (slice_get methods c.constructor ≡ Some m) × MakesPlain spec class m
+
+-- so many of the classes stand, with their methods
+pub record ArePutTogether (spec : Spec) (done : ℕ) (forms : List ClassForm) (methods : List Method) : Type 0 where
   pub counted : length forms ≡ done
   pub few : length methods ≤ 65 * done
-  pub each_class : All (ClassInRange classes (length methods)) forms
-  pub each_method : All (MethodInRange classes) methods
+  pub in_range : All (ClassInRange (length spec.classes) (length methods)) forms
+  pub fits : All (MethodFits spec) methods
+  pub constructors : HaveConstructors spec forms methods

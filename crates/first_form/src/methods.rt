@@ -1,9 +1,13 @@
 //! The methods of a class, with numbers for their names.
-ghost use Rattle.std.specs.Prelude.{◌≡◌, ◌+◌, ◌<◌, ◌≤◌, ◌∷◌, ◌++◌, [], length, All, IfOk, IfSome, OnOk};
-ghost use Rattle.easl_model.specs.Form.{ActInRange, SourceInRange, MethodInRange};
+ghost use Rattle.std.specs.Prelude.{◌≡◌, List, ◌+◌, ◌<◌, ◌≤◌, ◌∷◌, ◌++◌, [], length, All, IfOk, IfSome, IsTrue, OnOk, Some, slice_get};
+ghost use Rattle.easl_model.specs.Form.{ActInRange, SourceInRange};
+ghost use Rattle.easl_model.specs.Limits.{ActHasFewArguments, HasFewArguments};
+ghost use Rattle.easl_model.specs.Names.{members_of as members_in, constructor_in};
+ghost use Rattle.easl_model.specs.declared.form.Method as form;
+ghost use Rattle.first_form.specs.Parts.{ActIsPlain, CodeIsShort, IsGrown, IsPlain, IsShort, MakesPlain, MemberIsShort, MethodFits};
 
 use crate::form_fault::FormFault;
-use crate::names::{class_number, constructor_of, copied, field_of, is_same, param_of, sort_class};
+use crate::names::{constructor_of, copied, field_of, is_same, param_of, sort_class};
 use crate::values::{Scope, reach, source};
 use easl_model::{
     Act, Class, Code, Cond, Member, Method, Name, Param, Path, Reach, Source, Spec, Step, Test,
@@ -14,8 +18,6 @@ use std::alloc::Global;
 
 const MOST_METHODS: usize = 64;
 
-const MOST_PARAMETERS: usize = 4;
-
 /// Appends the constructor of the class, which has the number, and its methods.
 pub(crate) fn methods_of(
     alloc: Global,
@@ -24,10 +26,11 @@ pub(crate) fn methods_of(
     class: &Class,
     methods: &mut Vec<Method>,
 ) -> Result<(), FormFault>
-    requires number { number < length spec.now.classes }
-    requires before { All (MethodInRange (length spec.now.classes)) methods.old.items }
-    ensures in_range { OnOk result (All (MethodInRange (length spec.now.classes)) methods.new.items) }
-    ensures some { OnOk result (length methods.old.items < length methods.new.items) }
+    requires short { IsShort spec.now }
+    requires class { slice_get spec.now.classes number ≡ Some class.now }
+    requires before { All (MethodFits spec.now) methods.old.items }
+    ensures fits { OnOk result (All (MethodFits spec.now) methods.new.items) }
+    ensures grown { OnOk result (IsGrown spec.now number methods.old.items methods.new.items) }
     ensures few { OnOk result (length methods.new.items ≤ length methods.old.items + 65) }
 {
     let constructor = constructor_form(alloc, spec, number, class)?;
@@ -55,11 +58,13 @@ fn add_member(
     most: usize,
     methods: &mut Vec<Method>,
 ) -> Result<(), FormFault>
+    requires short { IsShort spec.now }
     requires number { number < length spec.now.classes }
-    requires before { All (MethodInRange (length spec.now.classes)) methods.old.items }
+    requires member { MemberIsShort member.now }
+    requires before { All (MethodFits spec.now) methods.old.items }
     requires room { length methods.old.items ≤ most }
-    ensures in_range { OnOk result (All (MethodInRange (length spec.now.classes)) methods.new.items) }
-    ensures more { OnOk result (length methods.old.items ≤ length methods.new.items) }
+    ensures fits { OnOk result (All (MethodFits spec.now) methods.new.items) }
+    ensures more { OnOk result ((more : List form.Method) × (methods.new.items ≡ methods.old.items ++ more)) }
     ensures few { OnOk result (length methods.new.items ≤ most) }
 {
     let Member::Method(code) = member else {
@@ -80,8 +85,10 @@ fn constructor_form(
     number: u32,
     class: &Class,
 ) -> Result<Method, FormFault>
-    requires { number < length spec.now.classes }
-    ensures { IfOk result (MethodInRange (length spec.now.classes)) }
+    requires short { IsShort spec.now }
+    requires number { number < length spec.now.classes }
+    ensures fits { IfOk result (MethodFits spec.now) }
+    ensures makes { IfOk result (MakesPlain spec.now number) }
 {
     match constructor_of(spec, number) {
         Some(code) => constructor(alloc, spec, number, class, code),
@@ -97,7 +104,8 @@ fn implicit_constructor(
     class: &Class,
 ) -> Result<Method, FormFault>
     requires { number < length spec.now.classes }
-    ensures { IfOk result (MethodInRange (length spec.now.classes)) }
+    ensures fits { IfOk result (MethodFits spec.now) }
+    ensures makes { IfOk result (MakesPlain spec.now number) }
 {
     Ok(Method {
         class: number,
@@ -120,8 +128,12 @@ fn constructor(
     class: &Class,
     code: &Code,
 ) -> Result<Method, FormFault>
-    requires { number < length spec.now.classes }
-    ensures { IfOk result (MethodInRange (length spec.now.classes)) }
+    requires short { IsShort spec.now }
+    requires number { number < length spec.now.classes }
+    requires code { CodeIsShort code.now }
+    requires written { constructor_in (members_in spec.now number) ≡ Some code.now }
+    ensures fits { IfOk result (MethodFits spec.now) }
+    ensures makes { IfOk result (MakesPlain spec.now number) }
 {
     let scope = Scope {
         spec,
@@ -129,7 +141,6 @@ fn constructor(
         params: code.params.as_slice(),
     };
     if !is_same(&code.name.name, &class.name.name)
-        || scope.params.len() > MOST_PARAMETERS
         || !sets_each_field_once(class, code.body.as_slice())
     {
         return Err(FormFault::NotBuilt);
@@ -184,7 +195,11 @@ fn plain_name(path: &Path) -> Option<&Name> {
 
 /// The steps of a constructor.
 fn fields_set(alloc: Global, scope: Scope<'_>, steps: &[Step]) -> Result<Items<Act>, FormFault>
-    ensures { IfOk result (All (ActInRange (length scope.entry.spec.now.classes))) }
+    requires { IsShort scope.spec.now }
+    ensures count { IfOk result (λ acts. length acts ≡ length steps.now) }
+    ensures in_range { IfOk result (All (ActInRange (length scope.entry.spec.now.classes))) }
+    ensures few { IfOk result (All ActHasFewArguments) }
+    ensures plain { IfOk result (All (ActIsPlain scope.entry.spec.now)) }
 {
     let mut acts = Items::new(alloc);
     'each: for step in steps {
@@ -195,7 +210,10 @@ fn fields_set(alloc: Global, scope: Scope<'_>, steps: &[Step]) -> Result<Items<A
 
 /// A step of a constructor: a field of `this`, named alone, takes a parameter's path or a new object without fields.
 fn field_set(alloc: Global, scope: Scope<'_>, step: &Step) -> Result<Act, FormFault>
-    ensures { IfOk result (ActInRange (length scope.entry.spec.now.classes)) }
+    requires { IsShort scope.spec.now }
+    ensures in_range { IfOk result (ActInRange (length scope.entry.spec.now.classes)) }
+    ensures few { IfOk result ActHasFewArguments }
+    ensures plain { IfOk result (ActIsPlain scope.entry.spec.now) }
 {
     let (Step::Assign(_, value), Some(name)) = (step, set_name(step)) else {
         return Err(FormFault::NotBuilt);
@@ -203,11 +221,8 @@ fn field_set(alloc: Global, scope: Scope<'_>, step: &Step) -> Result<Act, FormFa
     let Some((position, wanted)) = own_field(scope, name) else {
         return Err(FormFault::NotBuilt);
     };
-    if !may_begin(scope, value) {
-        return Err(FormFault::NotBuilt);
-    }
     let (source, class) = source(alloc, scope, value)?;
-    if class != wanted {
+    if class != wanted || !may_begin(scope.spec, &source) {
         return Err(FormFault::NotBuilt);
     }
     let this = Reach {
@@ -226,34 +241,27 @@ fn own_field(scope: Scope<'_>, name: &Name) -> Option<(u32, u32)> {
 }
 
 /// Whether a field may begin with the value: a path from a parameter, or a new object without fields.
-fn may_begin(scope: Scope<'_>, value: &Value) -> bool {
-    match value {
-        Value::Path(path) => match &path.head {
-            Some(word) => param_of(scope.params, &word.name).is_some(),
-            None => false,
-        },
-        Value::New(new) => {
-            match class_number(scope.spec, &new.class.name) {
-                Some(class) => constructor_of(scope.spec, class).is_none(),
-                None => false,
-            }
-        }
+fn may_begin(spec: &Spec, source: &Source) -> bool
+    ensures { IsTrue result → IsPlain spec.now source.now }
+{
+    match source {
+        Source::Reach(reach) => reach.slot > 0,
+        Source::Make(class, _) => constructor_of(spec, *class).is_none(),
     }
 }
 
 /// A method.
 fn method(alloc: Global, spec: &Spec, number: u32, code: &Code) -> Result<Method, FormFault>
-    requires { number < length spec.now.classes }
-    ensures { IfOk result (MethodInRange (length spec.now.classes)) }
+    requires short { IsShort spec.now }
+    requires number { number < length spec.now.classes }
+    requires code { CodeIsShort code.now }
+    ensures { IfOk result (MethodFits spec.now) }
 {
     let scope = Scope {
         spec,
         class: number,
         params: code.params.as_slice(),
     };
-    if scope.params.len() > MOST_PARAMETERS {
-        return Err(FormFault::NotBuilt);
-    }
     let Some(result) = sort_class(spec, &code.result) else {
         return Err(FormFault::NotBuilt);
     };
@@ -295,9 +303,11 @@ fn param_names(alloc: Global, params: &[Param]) -> Result<Items<Name>, FormFault
     Ok(found)
 }
 
-fn clauses(alloc: Global, scope: Scope<'_>, conds: &[Cond]) -> Result<Items<Test>, FormFault> {
+fn clauses(alloc: Global, scope: Scope<'_>, conds: &[Cond]) -> Result<Items<Test>, FormFault>
+    ensures { IfOk result (λ tests. length tests ≡ length conds.now) }
+{
     let mut tests = Items::new(alloc);
-    for cond in conds {
+    'each: for cond in conds {
         tests.push(clause(alloc, scope, cond)?)?;
     }
     Ok(tests)
@@ -319,7 +329,10 @@ fn clause(alloc: Global, scope: Scope<'_>, cond: &Cond) -> Result<Test, FormFaul
 
 /// The steps of a method.
 fn assignments(alloc: Global, scope: Scope<'_>, steps: &[Step]) -> Result<Items<Act>, FormFault>
-    ensures { IfOk result (All (ActInRange (length scope.entry.spec.now.classes))) }
+    requires { IsShort scope.spec.now }
+    ensures count { IfOk result (λ acts. length acts ≡ length steps.now) }
+    ensures in_range { IfOk result (All (ActInRange (length scope.entry.spec.now.classes))) }
+    ensures few { IfOk result (All ActHasFewArguments) }
 {
     let mut acts = Items::new(alloc);
     'each: for step in steps {
@@ -330,7 +343,9 @@ fn assignments(alloc: Global, scope: Scope<'_>, steps: &[Step]) -> Result<Items<
 
 /// A step of a method: a field takes a value of its class.
 fn assignment(alloc: Global, scope: Scope<'_>, step: &Step) -> Result<Act, FormFault>
-    ensures { IfOk result (ActInRange (length scope.entry.spec.now.classes)) }
+    requires { IsShort scope.spec.now }
+    ensures in_range { IfOk result (ActInRange (length scope.entry.spec.now.classes)) }
+    ensures few { IfOk result ActHasFewArguments }
 {
     let Step::Assign(path, value) = step else {
         return Err(FormFault::NotBuilt);
@@ -355,7 +370,9 @@ fn returned(
     value: &Option<Value>,
     result_class: Option<u32>,
 ) -> Result<Option<Source>, FormFault>
-    ensures { IfOk result (λ v. IfSome v (SourceInRange (length scope.entry.spec.now.classes))) }
+    requires { IsShort scope.spec.now }
+    ensures in_range { IfOk result (λ v. IfSome v (SourceInRange (length scope.entry.spec.now.classes))) }
+    ensures few { IfOk result (λ v. IfSome v HasFewArguments) }
 {
     match (value, result_class) {
         (None, None) => Ok(None),

@@ -1,5 +1,8 @@
 //! What the names of a specification stand for.
 ghost use Rattle.std.specs.Prelude.{◌≡◌, ◌↔◌, ◌<◌, length, IsTrue, IfSome};
+ghost use Rattle.std.specs.Option.{option_copied};
+ghost use Rattle.easl_model.specs.Names.{members_of as members_in, constructor_in};
+ghost use Rattle.first_form.specs.Parts.{IsShort, CodeIsShort};
 
 use easl_model::{Code, Member, Name, Param, Sort, Spec};
 use std::alloc::{AllocError, Global};
@@ -37,7 +40,9 @@ pub(crate) fn sort_class(spec: &Spec, sort: &Sort) -> Option<Option<u32>>
 }
 
 /// The members of a class.
-pub(crate) fn members_of(spec: &Spec, class: u32) -> &[Member] {
+pub(crate) fn members_of(spec: &Spec, class: u32) -> &[Member]
+    ensures { result.now ≡ members_in spec.now class }
+{
     match spec.classes.as_slice().get(class as usize) {
         Some(class) => class.members.as_slice(),
         None => &[],
@@ -69,8 +74,19 @@ fn is_field_named(member: &Member, name: &Name) -> bool {
 }
 
 /// The constructor of a class, if one is written.
-pub(crate) fn constructor_of(spec: &Spec, class: u32) -> Option<&Code> {
-    for member in members_of(spec, class) {
+#[tactic(auto, using(crate::proofs::ShapeLemmas::constructor_is_short))]
+pub(crate) fn constructor_of(spec: &Spec, class: u32) -> Option<&Code>
+    ensures written { option_copied result ≡ constructor_in (members_in spec.now class) }
+    ensures short { IsShort spec.now → IfSome result (λ code. CodeIsShort code.now) }
+{
+    constructor_among(members_of(spec, class))
+}
+
+#[tactic(auto, using(std::proofs::lemmas::List::drop_more))]
+fn constructor_among(members: &[Member]) -> Option<&Code>
+    ensures { option_copied result ≡ constructor_in members.now }
+{
+    'each: for member in members {
         if let Member::Constructor(code) = member {
             return Some(code);
         }

@@ -1,6 +1,11 @@
 //! The shape of the specifications that are built so far, within the stated limits: fields, then a constructor
 //! exactly where there are fields, then methods; clauses of one `==`; bodies of assignments.
+ghost use Rattle.std.specs.Prelude.{All, IsTrue};
+ghost use Rattle.first_form.specs.Parts.{ClassIsShort, CodeIsShort, IsShort, MemberIsShort};
+
 use easl_model::{Arg, Class, Code, Cond, Key, Kind, Mark, Member, Path, Spec, Step, Token, Value};
+
+const MOST_PARAMETERS: usize = 4;
 
 const MOST_CLAUSES: usize = 16;
 
@@ -19,23 +24,38 @@ pub(crate) fn has_plain_clauses(tokens: &[Token]) -> bool {
     })
 }
 
-pub(crate) fn is_shaped(spec: &Spec) -> bool {
-    spec.classes
-        .as_slice()
-        .iter()
-        .all(|class| class_is_shaped(class))
+pub(crate) fn is_shaped(spec: &Spec) -> bool
+    ensures { IsTrue result → IsShort spec.now }
+{
+    'each: for class in spec.classes.as_slice() {
+        if !class_is_shaped(class) {
+            return false;
+        }
+    }
+    true
 }
 
-fn class_is_shaped(class: &Class) -> bool {
+fn class_is_shaped(class: &Class) -> bool
+    ensures { IsTrue result → ClassIsShort class.now }
+{
     let members = class.members.as_slice();
     let fields = members.iter().filter(|member| is_field(member)).count();
     let constructors = members
         .iter()
         .filter(|member| is_constructor(member))
         .count();
-    constructors == fields.min(1)
-        && is_in_order(members)
-        && members.iter().all(|member| member_is_shaped(member))
+    constructors == fields.min(1) && is_in_order(members) && members_are_shaped(members)
+}
+
+fn members_are_shaped(members: &[Member]) -> bool
+    ensures { IsTrue result → All MemberIsShort members.now }
+{
+    'each: for member in members {
+        if !member_is_shaped(member) {
+            return false;
+        }
+    }
+    true
 }
 
 fn is_field(member: &Member) -> bool {
@@ -59,15 +79,20 @@ fn is_in_order(members: &[Member]) -> bool {
     })
 }
 
-fn member_is_shaped(member: &Member) -> bool {
+fn member_is_shaped(member: &Member) -> bool
+    ensures { IsTrue result → MemberIsShort member.now }
+{
     match member {
         Member::Field(_) => true,
         Member::Constructor(code) | Member::Method(code) => code_is_shaped(code),
     }
 }
 
-fn code_is_shaped(code: &Code) -> bool {
-    code.clauses.len() <= MOST_CLAUSES
+fn code_is_shaped(code: &Code) -> bool
+    ensures { IsTrue result → CodeIsShort code.now }
+{
+    code.params.len() <= MOST_PARAMETERS
+        && code.clauses.len() <= MOST_CLAUSES
         && code.body.len() <= MOST_STATEMENTS
         && code
             .clauses

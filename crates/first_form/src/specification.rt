@@ -1,6 +1,6 @@
 //! Reads and checks a specification of the form that is built so far.
 ghost use Rattle.std.specs.Prelude.{◌≡◌, ◌≤◌, length, IfOk};
-ghost use Rattle.first_form.specs.Parts.{FieldsInRange};
+ghost use Rattle.first_form.specs.Parts.{FieldsInRange, IsShort};
 
 use crate::form_fault::FormFault;
 use crate::methods::methods_of;
@@ -70,9 +70,9 @@ fn params_are_distinct(member: &Member) -> bool {
 }
 
 /// The checked form of the classes and their methods.
-
 fn checked(alloc: Global, spec: &Spec) -> Result<CheckedSpec, FormFault>
-    requires { length spec.now.classes ≤ 64 }
+    requires few { length spec.now.classes ≤ 64 }
+    requires short { IsShort spec.now }
 {
     let mut forms = Vec::new(alloc);
     let mut methods = Vec::new(alloc);

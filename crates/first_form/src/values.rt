@@ -1,6 +1,8 @@
 //! Paths and values of a specification, with numbers for their names.
-ghost use Rattle.std.specs.Prelude.{◌<◌, ◌≤◌, length, IfOk, IfSome};
+ghost use Rattle.std.specs.Prelude.{◌≡◌, ◌<◌, ◌≤◌, length, IfOk, IfSome};
 ghost use Rattle.easl_model.specs.Form.{SourceInRange};
+ghost use Rattle.easl_model.specs.Limits.{HasFewArguments};
+ghost use Rattle.first_form.specs.Parts.{IsShort};
 
 use crate::form_fault::FormFault;
 use crate::names::{class_number, constructor_of, field_of, param_of, sort_class};
@@ -100,7 +102,9 @@ pub(crate) fn source(
     scope: Scope<'_>,
     value: &Value,
 ) -> Result<(Source, u32), FormFault>
-    ensures { IfOk result (λ x. SourceInRange (length scope.entry.spec.now.classes) x.0) }
+    requires { IsShort scope.spec.now }
+    ensures in_range { IfOk result (λ x. SourceInRange (length scope.entry.spec.now.classes) x.0) }
+    ensures few { IfOk result (λ x. HasFewArguments x.0) }
 {
     match value {
         Value::Path(path) => {
@@ -113,7 +117,9 @@ pub(crate) fn source(
 
 /// A construction: its class has a constructor of these arguments, or none and there are none.
 fn made(alloc: Global, scope: Scope<'_>, new: &New) -> Result<(Source, u32), FormFault>
-    ensures { IfOk result (λ x. SourceInRange (length scope.entry.spec.now.classes) x.0) }
+    requires { IsShort scope.spec.now }
+    ensures in_range { IfOk result (λ x. SourceInRange (length scope.entry.spec.now.classes) x.0) }
+    ensures few { IfOk result (λ x. HasFewArguments x.0) }
 {
     let Some(class) = class_number(scope.spec, &new.class.name) else {
         return Err(FormFault::NotBuilt);
@@ -132,13 +138,15 @@ fn arguments(
     scope: Scope<'_>,
     params: &[Param],
     args: &[Arg],
-) -> Result<Items<Option<Reach>>, FormFault> {
+) -> Result<Items<Option<Reach>>, FormFault>
+    ensures { IfOk result (λ reaches. length reaches ≡ length params.now) }
+{
     if params.len() != args.len() {
         return Err(FormFault::NotBuilt);
     }
     let mut reaches = Items::new(alloc);
-    for (param, arg) in params.iter().zip(args) {
-        reaches.push(argument(alloc, scope, param, arg)?)?;
+    'each: for (at, arg) in args.iter().enumerate() {
+        reaches.push(argument(alloc, scope, &params[at], arg)?)?;
     }
     Ok(reaches)
 }

@@ -34,3 +34,4 @@ construct-returns-clause-gives t c =
     c.add-object.ensures.items
     c.frame-slots.ensures
     (rw c.as_slice-acts.ensures at c.run-steps.ensures.comes)
+    c.method-constructor.ensures.limits

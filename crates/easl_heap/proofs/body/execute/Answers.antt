@@ -10,7 +10,8 @@ returns-then-called-clause-body c =
     c.args.args.now
     c.args.objects.now.items
     _
-    c.class_count-depth.ensures.in_range
+    c.method-called.ensures.in_range
+    c.method-called.ensures.limits
     c.method-called.ensures.value
     c.requires.args
     c.if-called.true
@@ -26,7 +27,8 @@ returns-clause-body c =
     c.args.objects.now.items
     (moment c.run-steps.new.objects.items c.run-steps.new.slots.items c.run-steps.result)
     (outcome c.returned.new.objects.items c.returned.result.result c.returned.result.steps)
-    c.class_count-depth.ensures.in_range
+    c.method-called.ensures.in_range
+    c.method-called.ensures.limits
     c.method-called.ensures.value
     c.requires.args
     c.if-called.false

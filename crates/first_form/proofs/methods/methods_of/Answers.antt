@@ -1,16 +1,29 @@
-use Rattle.std.proofs.Common.{[], ◌∷◌, ap, length, arith, length-append}
+use Rattle.std.proofs.Common.{[], ◌∷◌, ap, length, arith, length-append, subst, sym}
 use Rattle.std.proofs.lemmas.List.Elements.{All-push}
-use Rattle.easl_model.specs.Form.{MethodInRange}
+use Rattle.std.proofs.lemmas.Option.{slice_get_within}
+use Rattle.first_form.specs.Parts.{MemberIsShort, MethodFits}
+use Rattle.first_form.proofs.ShapeLemmas.{class_is_short}
 use Rattle.first_form.proofs.methods.methods_of.Goals as goal
 
 pub each-init : goal.each-init
 each-init c =
     let old = c.args.methods.now.items in
     let made = c.in_ok-constructor.constructor in
-    let more = ap length c.in_ok-add.ensures in
-    let one = length-append old (made ∷ []) in
     record {
-      some = omega (arith, more, one);
-      few = omega (arith, more, one, c.len-most.ensures);
-      in_range = rw c.in_ok-add.ensures (All-push (MethodInRange (length c.args.spec.now.classes)) old made c.requires.before c.in_ok-constructor.ensures);
+      few = omega (arith, ap length c.in_ok-add.ensures, length-append old (made ∷ []), c.len-most.ensures);
+      fits = rw c.in_ok-add.ensures (All-push (MethodFits c.args.spec.now) old made c.requires.before c.in_ok-constructor.ensures.fits);
+      grown = record {
+        constructor = made;
+        others = [];
+        added = c.in_ok-add.ensures;
+        makes = c.in_ok-constructor.ensures.makes;
+      };
     }
+
+pub add_member-requires-clause-number : goal.add_member-requires-clause-number
+add_member-requires-clause-number c = slice_get_within c.args.spec.now.classes c.args.number _ c.requires.class
+
+pub add_member-requires-clause-member : goal.add_member-requires-clause-member
+add_member-requires-clause-member c =
+    let short = class_is_short c.args.spec.now c.args.number _ c.requires.short c.requires.class in
+    subst MemberIsShort (sym c.member-item.is) (rw (← c.as_slice-member-items.ensures) at short c.each.member-index c.member-item.result c.each-test.true)
