@@ -5,6 +5,8 @@
 mod calls;
 mod reader;
 mod running;
+#[cfg(test)]
+mod tests;
 mod tree;
 
 pub use calls::{MadeCall, calls_of};
