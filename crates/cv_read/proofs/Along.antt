@@ -1,5 +1,5 @@
 -- A loop that reads items one after another is `items_at`.
-use Rattle.std.proofs.Common.{◌≡◌, ℕ, zero, suc, ◌+◌, ◌-◌, ◌<◌, ◌≤◌, List, [], ◌∷◌, ◌++◌, length, Some, None, Option, refl, sym, ◌∙◌, ap, arith, append_assoc, append-nil, length-append}
+use Rattle.std.proofs.Common.{◌≡◌, ℕ, suc, ◌+◌, ◌-◌, ◌<◌, ◌≤◌, List, [], ◌∷◌, ◌++◌, length, Some, None, Option, refl, sym, ◌∙◌, ap, arith, append_assoc, append-nil, length-append}
 use Rattle.easl_model.specs.declared.token.Token.{Token}
 use Rattle.cv_read.specs.Read.{Read, Got, Stuck, Deep, put_front, many_at, then_more, items_at}
 

@@ -1,12 +1,11 @@
 -- A reader goes too deep only where too many brackets stand in the text.
-use Rattle.std.proofs.Common.{◌≡◌, ℕ, zero, suc, ◌+◌, ◌<◌, ◌≤◌, Bool, true, false, List, [], ◌∷◌, ◌++◌, length, refl, sym, ◌∙◌, ap, subst, arith, length-append, Option, Some, None}
+use Rattle.std.proofs.Common.{◌≡◌, ℕ, zero, suc, ◌+◌, ◌<◌, ◌≤◌, Bool, true, false, List, [], ◌∷◌, ◌++◌, length, refl, sym, ◌∙◌, ap, subst, arith, length-append}
 use Rattle.easl_model.specs.Brackets.{turned, level_after, StaysShallow}
 use Rattle.easl_model.specs.declared.token.Kind.{Kind}
 use Rattle.easl_model.specs.declared.token.Token.{Token}
-use Rattle.cv_read.specs.Read.{Read, Got, Stuck, Deep, ◌>>=◌, choose, pick, begins, step_at, many_at, items_at, take_at}
+use Rattle.cv_read.specs.Read.{Read, Got, Stuck, Deep, ◌>>=◌, choose, pick, step_at, many_at, items_at, take_at}
 use Rattle.cv_read.proofs.Laws.{Lang, Is, Front, Apart, Reads, got_or_deep, true_is}
 use Rattle.cv_read.proofs.Repeats.{as_choice, then_rest}
-use Rattle.cv_read.proofs.Unclosed.{level-append}
 
 -- its spellings close what they open
 abbrev pub Even : {A : Type 0} → Lang A → Type 0

@@ -2,7 +2,7 @@
 use Rattle.std.proofs.Common.{◌≡◌, ℕ, suc, ◌≤◌, Bool, true, false, ◌||◌, List, [], ◌∷◌, ◌++◌, length, refl, sym, ◌∙◌, ap, subst, arith, append_assoc, append-nil, length-append, ◌⊎◌, inl, inr}
 use Rattle.easl_model.specs.declared.token.Kind.{Kind}
 use Rattle.easl_model.specs.declared.token.Token.{Token}
-use Rattle.cv_read.specs.Read.{Read, Got, Stuck, Deep, ◌>>=◌, pick, begins, take_at, choose}
+use Rattle.cv_read.specs.Read.{Read, Got, Stuck, Deep, ◌>>=◌, pick, take_at, choose}
 
 -- w has the tokens of ts up to and with the one where n are left, or both end
 abbrev pub Upto : List Token → ℕ → List Token → Type 0

@@ -1,8 +1,7 @@
 -- Where so many tokens are left.
-use Rattle.std.proofs.Common.{◌≡◌, ℕ, zero, suc, ◌+◌, ◌-◌, ◌<◌, ◌≤◌, List, [], ◌∷◌, ◌++◌, length, drop, refl, sym, ◌∙◌, ap, subst, arith, length-append, ◌⊎◌, inl, inr, append_assoc, append-nil}
-use Rattle.easl_model.specs.Brackets.{turned, level_after, StaysShallow, Shallow, IsFirstDeep}
+use Rattle.std.proofs.Common.{◌≡◌, ℕ, zero, suc, ◌+◌, ◌-◌, ◌<◌, List, [], ◌∷◌, ◌++◌, length, drop, refl, sym, ◌∙◌, ap, subst, arith, length-append, ◌⊎◌, inl, inr}
+use Rattle.easl_model.specs.Brackets.{turned, level_after, Shallow}
 use Rattle.easl_model.specs.Spelling.{first_place}
-use Rattle.easl_model.specs.declared.place.Place.{Place}
 use Rattle.easl_model.specs.declared.token.Token.{Token}
 use Rattle.easl_model.specs.declared.token.Tokens.{Tokens}
 use Rattle.cv_read.specs.Faults.{place_where, DeepAt}

@@ -1,16 +1,15 @@
 -- Which languages close what they open, and which readers go too deep only where too many brackets stand.
-use Rattle.std.proofs.Common.{◌≡◌, ℕ, suc, ◌≤◌, Bool, List, [], ◌∷◌, ◌++◌, refl, ◌∙◌, ap, subst, arith, inl, inr}
+use Rattle.std.proofs.Common.{◌≡◌, ℕ, suc, Bool, List, [], ◌∷◌, ◌++◌, refl, ◌∙◌, ap, inl, inr}
 use Rattle.easl_model.specs.Brackets.{turned, level_after}
 use Rattle.easl_model.specs.Grammar.{IsMore, no_more, one_more, IsListed, nothing, listed}
 use Rattle.easl_model.specs.Lexemes.{is_literal}
 use Rattle.easl_model.specs.declared.token.Key.{Key}
-use Rattle.easl_model.specs.declared.token.Key.TheVariants as key
 use Rattle.easl_model.specs.declared.token.Kind.{Kind}
 use Rattle.easl_model.specs.declared.token.Kind.TheVariants as kind
 use Rattle.easl_model.specs.declared.token.Mark.{Mark}
 use Rattle.easl_model.specs.declared.token.Mark.TheVariants as mark
 use Rattle.easl_model.specs.declared.token.Token.{Token}
-use Rattle.cv_read.specs.Read.{Read, Got, Stuck, Deep, ◌>>=◌, take_at, choose, is_mark, is_key, is_name, nothing_of, mark_at, behind_mark, before_mark, items_at, step_at, more_at, commas_at, listed_at, parens_at}
+use Rattle.cv_read.specs.Read.{Read, Got, Stuck, Deep, ◌>>=◌, take_at, is_mark, is_key, is_name, nothing_of, mark_at, behind_mark, before_mark, more_at, commas_at, listed_at, parens_at}
 use Rattle.cv_read.proofs.Depth.{Even, Bounded, bounded_both, bounded_choose, bounded_take, bounded_got, bounded_bracket, bounded_items}
 use Rattle.cv_read.proofs.Laws.{Lang, Is, none, Front, Apart, Reads, Then, Mapped, Or, End, One, one, got_or_deep}
 use Rattle.cv_read.proofs.Repeats.{Star, Next, next_law, next_starts}

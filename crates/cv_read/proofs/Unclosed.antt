@@ -1,6 +1,6 @@
 -- The loop that counts unclosed brackets.
 use Rattle.std.proofs.Common.{◌≡◌, ℕ, ◌<◌, ◌≤◌, List, [], ◌∷◌, ◌++◌, length, refl, sym, ◌∙◌, ap, subst, arith, append_assoc, append-nil}
-use Rattle.easl_model.specs.Brackets.{turned, level_after, StaysShallow, Shallow, IsFirstDeep}
+use Rattle.easl_model.specs.Brackets.{turned, level_after, StaysShallow, Shallow}
 use Rattle.easl_model.specs.declared.token.Kind.{Kind}
 use Rattle.easl_model.specs.declared.token.Token.{Token}
 use Rattle.cv_read.specs.Read.{FirstIs}

@@ -1,12 +1,12 @@
 -- What the law of a reader says of a whole text.
-use Rattle.std.proofs.Common.{◌≡◌, ℕ, zero, suc, ◌+◌, ◌<◌, Bool, List, [], ◌∷◌, ◌++◌, length, refl, sym, ◌∙◌, ap, subst, arith, append_assoc, append-nil, length-append, ◌⊎◌, inl, inr}
-use Rattle.easl_model.specs.Spelling.{Ends, FirstWrong}
+use Rattle.std.proofs.Common.{◌≡◌, ℕ, suc, ◌+◌, ◌<◌, Bool, List, [], ◌∷◌, ◌++◌, length, refl, sym, ◌∙◌, ap, subst, arith, append_assoc, append-nil, length-append, ◌⊎◌, inl, inr}
+use Rattle.easl_model.specs.Spelling.{Ends}
 use Rattle.easl_model.specs.declared.token.Kind.{Kind}
 use Rattle.easl_model.specs.declared.token.Token.{Token}
 use Rattle.cv_read.specs.Faults.{WrongAt}
 use Rattle.cv_read.specs.Read.{Read, Got, Stuck, Deep, ◌>>=◌, done_at, whole_at}
 use Rattle.cv_read.proofs.Lefts.{fronts, order}
-use Rattle.cv_read.proofs.Laws.{Lang, Upto, Reads, got_list, got_value, stuck_left, got_or_stuck, stuck_or_got, got_or_deep, deep_or_got, deep_or_stuck}
+use Rattle.cv_read.proofs.Laws.{Lang, Upto, Reads, got_value, stuck_left, got_or_stuck, stuck_or_got, deep_or_got, deep_or_stuck}
 
 -- a text agrees with itself
 pub upto_self : (ts : List Token) (n : ℕ) → Upto ts n ts
@@ -116,26 +116,3 @@ module _ {A : Type 0} (r : List Token → Read A) (S : Lang A) (G : Kind → Boo
       by_order (inl l) = absurd (later ts m n a b l)
       by_order (inr (inl e)) = e
       by_order (inr (inr l)) = absurd (later ts n m b a l)
-
-  -- and there the reader stops
-  pub wrong_once : (ts : List Token) (n : ℕ) → (r ts ≡ Deep → ⊥) → WrongAt S ts n → whole_at r ts ≡ Stuck n
-  wrong_once ts n d w = by (whole_at r ts) refl
-    where
-      deep : (o : Read A) → r ts ≡ o → (o >>= λ x us. done_at x us) ≡ Deep → ⊥
-      deep (Got x []) p e = got_or_deep e
-      deep (Got x (t ∷ us)) p e = cc
-      deep (Stuck k) p e = cc
-      deep Deep p e = d p
-
-      nothing_left : (o : Read A) (x : A) (us : List Token) → (o >>= λ x us. done_at x us) ≡ Got x us → us ≡ []
-      nothing_left (Got y []) x us e = sym (got_list e)
-      nothing_left (Got y (t ∷ vs)) x us e = stuck_or_got e
-      nothing_left (Stuck k) x us e = stuck_or_got e
-      nothing_left Deep x us e = deep_or_got e
-
-      by : (o : Read A) → whole_at r ts ≡ o → whole_at r ts ≡ Stuck n
-      by (Got x us) p =
-          let s : S ts x = read_spells ts x (p ∙ ap (λ v. Got x v) (nothing_left (r ts) x us p)) in
-          absurd (unlike ts w.0 w.1 n w.2 w.3 w.4.ends x s)
-      by (Stuck m) p = p ∙ ap Stuck (wrong_one ts m n (stops_first ts m p) w)
-      by Deep p = absurd (deep (r ts) refl p)

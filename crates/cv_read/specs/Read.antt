@@ -2,6 +2,7 @@
 -- it went too deep.
 use Rattle.std.specs.Prelude.{◌≡◌, ℕ, zero, suc, Bool, true, false, Option, Some, None, MatchOption, List, [], ◌∷◌, ◌++◌, length, Ok, Err, Result}
 use denote.Enum.Bare.{sameb}
+use denote.Ref.{Bor}
 use Rattle.easl_model.specs.Lexemes.{is_literal, word_of}
 use Rattle.easl_model.specs.contracts.token.Key.{the_type as the_keys}
 use Rattle.easl_model.specs.contracts.token.Mark.{the_type as the_marks}
@@ -26,10 +27,15 @@ Fails Memory r = Unit {0}
 Fails (Syntax left) r = r ≡ Stuck left
 Fails (Nesting left) r = r ≡ Deep
 
--- the answer is this reading, unless memory ran out
-abbrev pub Gives : {X A : Type 0} → (X → A) → (X → List Token) → Result X ReadFault → Read A → Type 0
-Gives value rest (Ok x) r = r ≡ Got (value x) (rest x)
-Gives value rest (Err e) r = Fails e r
+-- the answer is this reading, unless memory ran out: a value and what is left
+abbrev pub Gives : {A : Type 0} → Result (A × Bor (List Token)) ReadFault → Read A → Type 0
+Gives (Ok x) r = r ≡ Got x.0 x.1.now
+Gives (Err e) r = Fails e r
+
+-- the same where the value is nothing
+abbrev pub GivesRest : Result (Bor (List Token)) ReadFault → Read (Unit {0}) → Type 0
+GivesRest (Ok rest) r = r ≡ Got tt rest.now
+GivesRest (Err e) r = Fails e r
 
 -- the same of a whole text
 abbrev pub GivesWhole : {A : Type 0} → Result A ReadFault → Read A → Type 0
@@ -63,11 +69,20 @@ abbrev pub take_at : {A : Type 0} → (Kind → Bool) → (Token → A) → List
 take_at p value [] = Stuck 0
 take_at p value (t ∷ ts) = pick (p t.kind) (Got (value t) ts) (Stuck (length (t ∷ ts)))
 
+abbrev pub nothing_of : Token → Unit {0}
+nothing_of t = tt
+
 -- such a token where it is the first, and else none
-abbrev pub FindsFirst : {X A : Type 0} → (X → A) → (X → List Token) → (Kind → Bool) → (Token → A) → List Token → Option X → Type 0
-FindsFirst value rest p v ts r = MatchOption r
-    ((begins p ts ≡ false) × (take_at p v ts ≡ Stuck (length ts)))
-    (λ x. (begins p ts ≡ true) × (take_at p v ts ≡ Got (value x) (rest x)))
+abbrev pub Finds : {A : Type 0} → (Kind → Bool) → (Token → A) → List Token → Option (A × Bor (List Token)) → Type 0
+Finds p value ts r = MatchOption r
+    ((begins p ts ≡ false) × (take_at p value ts ≡ Stuck (length ts)))
+    (λ x. (begins p ts ≡ true) × (take_at p value ts ≡ Got x.0 x.1.now))
+
+-- the same where the value is nothing
+abbrev pub FindsRest : (Kind → Bool) → List Token → Option (Bor (List Token)) → Type 0
+FindsRest p ts r = MatchOption r
+    ((begins p ts ≡ false) × (take_at p nothing_of ts ≡ Stuck (length ts)))
+    (λ rest. (begins p ts ≡ true) × (take_at p nothing_of ts ≡ Got tt rest.now))
 
 -- one way or the other by the first token
 abbrev pub choose : {A : Type 0} → (Kind → Bool) → (List Token → Read A) → (List Token → Read A) → List Token → Read A
@@ -87,9 +102,6 @@ is_name k = false
 
 abbrev pub place_of : Token → Place
 place_of t = t.place
-
-abbrev pub nothing_of : Token → Unit {0}
-nothing_of t = tt
 
 abbrev pub mark_at : Mark → List Token → Read (Unit {0})
 mark_at m = take_at (is_mark m) nothing_of

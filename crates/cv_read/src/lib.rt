@@ -10,5 +10,5 @@ pub use brackets::{MOST_OPEN, nesting};
 pub use fault::ReadFault;
 pub use taking::{
     Source, after_key, after_mark, begins_key, begins_literal, begins_mark, begins_name, front,
-    is_literal, key, literal, mark, name, next, placed_key, placed_mark,
+    is_literal, key, literal, mark, name, next, placed_key, placed_mark, words_of_tokens,
 };

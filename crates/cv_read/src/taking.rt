@@ -1,6 +1,7 @@
-ghost use Rattle.std.specs.Prelude.{◌≡◌, ◌+◌, ◌∷◌, ◌<◌, [], ◌&&◌, length, chars, string_bytes, MatchOption, IfOk, IfSome, IsTrue, nat_le};
-ghost use Rattle.easl_model.specs.Lexemes.{bytes_of, is_literal, word_of};
-ghost use Rattle.cv_read.specs.Read.{Gives, FindsFirst, FirstIs, begins, is_mark, is_key, is_name, nothing_of, place_of, mark_at, mark_place_at, key_at, name_at, literal_at};
+ghost use Rattle.std.specs.Prelude.{◌≡◌, ◌≢◌, ◌+◌, ◌∷◌, ◌<◌, [], ◌&&◌, length, chars, string_bytes, MatchOption, IfOk, IfErr, IfSome, IsTrue, nat_le};
+ghost use Rattle.easl_model.specs.Lexemes.{TokensAreWritten, bytes_of, is_literal, word_of};
+ghost use Rattle.cv_read.specs.Read.{Gives, GivesRest, Finds, FindsRest, FirstIs, begins, is_mark, is_key, is_name, place_of, mark_at, mark_place_at, key_at, name_at, literal_at};
+ghost use Rattle.cv_read.specs.declared.fault.ReadFault.TheVariants.{Memory};
 
 use crate::fault::ReadFault;
 use easl_model::{Key, Kind, Mark, Name, Place, Token, Word};
@@ -76,7 +77,7 @@ pub fn begins_key(wanted: Key, tokens: &[Token]) -> bool
 
 /// The tokens after this mark, if it is the first.
 pub fn after_mark(wanted: Mark, tokens: &[Token]) -> Option<&[Token]>
-    ensures finds { FindsFirst (λ _. tt) (λ x. x.now) (is_mark wanted) nothing_of tokens.now result }
+    ensures finds { FindsRest (is_mark wanted) tokens.now result }
     ensures shorter { IfSome result (λ x. length x.now < length tokens.now) }
 {
     match next(tokens) {
@@ -87,7 +88,7 @@ pub fn after_mark(wanted: Mark, tokens: &[Token]) -> Option<&[Token]>
 
 /// The tokens after this keyword, if it is the first.
 pub fn after_key(wanted: Key, tokens: &[Token]) -> Option<&[Token]>
-    ensures finds { FindsFirst (λ _. tt) (λ x. x.now) (is_key wanted) nothing_of tokens.now result }
+    ensures finds { FindsRest (is_key wanted) tokens.now result }
     ensures shorter { IfSome result (λ x. length x.now < length tokens.now) }
 {
     match next(tokens) {
@@ -98,7 +99,7 @@ pub fn after_key(wanted: Key, tokens: &[Token]) -> Option<&[Token]>
 
 /// The place of this keyword and the tokens after it, if it is the first.
 pub fn placed_key(wanted: Key, tokens: &[Token]) -> Option<(Place, &[Token])>
-    ensures finds { FindsFirst (λ x. x.0) (λ x. x.1.now) (is_key wanted) place_of tokens.now result }
+    ensures finds { Finds (is_key wanted) place_of tokens.now result }
     ensures shorter { IfSome result (λ x. length x.1.now < length tokens.now) }
 {
     match next(tokens) {
@@ -109,7 +110,8 @@ pub fn placed_key(wanted: Key, tokens: &[Token]) -> Option<(Place, &[Token])>
 
 /// The tokens after this mark.
 pub fn mark(wanted: Mark, tokens: &[Token]) -> Result<&[Token], ReadFault>
-    ensures reads { Gives (λ _. tt) (λ x. x.now) result (mark_at wanted tokens.now) }
+    ensures reads { GivesRest result (mark_at wanted tokens.now) }
+    ensures memory { IfErr result (λ e. e ≢ Memory) }
     ensures shorter { IfOk result (λ x. length x.now < length tokens.now) }
 {
     match next(tokens) {
@@ -120,7 +122,8 @@ pub fn mark(wanted: Mark, tokens: &[Token]) -> Result<&[Token], ReadFault>
 
 /// The place of this mark, and the tokens after it.
 pub fn placed_mark(wanted: Mark, tokens: &[Token]) -> Result<(Place, &[Token]), ReadFault>
-    ensures reads { Gives (λ x. x.0) (λ x. x.1.now) result (mark_place_at wanted tokens.now) }
+    ensures reads { Gives result (mark_place_at wanted tokens.now) }
+    ensures memory { IfErr result (λ e. e ≢ Memory) }
     ensures shorter { IfOk result (λ x. length x.1.now < length tokens.now) }
 {
     match next(tokens) {
@@ -131,7 +134,8 @@ pub fn placed_mark(wanted: Mark, tokens: &[Token]) -> Result<(Place, &[Token]), 
 
 /// The tokens after this keyword.
 pub fn key(wanted: Key, tokens: &[Token]) -> Result<&[Token], ReadFault>
-    ensures reads { Gives (λ _. tt) (λ x. x.now) result (key_at wanted tokens.now) }
+    ensures reads { GivesRest result (key_at wanted tokens.now) }
+    ensures memory { IfErr result (λ e. e ≢ Memory) }
     ensures shorter { IfOk result (λ x. length x.now < length tokens.now) }
 {
     match next(tokens) {
@@ -142,7 +146,7 @@ pub fn key(wanted: Key, tokens: &[Token]) -> Result<&[Token], ReadFault>
 
 /// A name, and the tokens after it.
 pub fn name<'a>(source: Source<'_>, tokens: &'a [Token]) -> Result<(Word, &'a [Token]), ReadFault>
-    ensures reads { Gives (λ x. x.0) (λ x. x.1.now) result (name_at source.entry.text.now tokens.now) }
+    ensures reads { Gives result (name_at source.entry.text.now tokens.now) }
     ensures shorter { IfOk result (λ x. length x.1.now < length tokens.now) }
 {
     match next(tokens) {
@@ -156,7 +160,7 @@ pub fn literal<'a>(
     source: Source<'_>,
     tokens: &'a [Token],
 ) -> Result<(Word, &'a [Token]), ReadFault>
-    ensures reads { Gives (λ x. x.0) (λ x. x.1.now) result (literal_at source.entry.text.now tokens.now) }
+    ensures reads { Gives result (literal_at source.entry.text.now tokens.now) }
     ensures shorter { IfOk result (λ x. length x.1.now < length tokens.now) }
 {
     match next(tokens) {
@@ -182,6 +186,12 @@ fn is_key(wanted: Key, kind: Kind) -> bool
         _ => false,
     }
 }
+
+/// The word of each token of a text is what the token was cut from.
+#[tactic(auto, using(easl_model::proofs::Written::tokens_are_written))]
+pub fn words_of_tokens()
+    ensures { TokensAreWritten }
+{}
 
 fn is_name(kind: Kind) -> bool
     ensures { result ≡ is_name kind }

@@ -3,3 +3,4 @@ pub mod FormsInRange
 pub mod Pieces
 pub mod Places
 pub mod Words
+pub mod Written

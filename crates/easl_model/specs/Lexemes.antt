@@ -1,11 +1,13 @@
 -- What single tokens of a text are: marks, keywords, names and literals.
-use Rattle.std.specs.Prelude.{◌≡◌, ℕ, ◌&&◌, ◌||◌, Bool, true, false, List, [], if◌then◌else◌, length, nat_lt, nat_le, slice_index, slice_range, IsTrue, chars}
+use Rattle.std.specs.Prelude.{◌≡◌, ℕ, All, ◌&&◌, ◌||◌, Bool, true, false, List, [], if◌then◌else◌, length, nat_lt, nat_le, slice_index, slice_range, IsTrue, chars}
+use Rattle.easl_model.specs.Tokens.{IsToken, AreTokens}
 use Rattle.easl_model.specs.declared.token.Key.{Key}
 use Rattle.easl_model.specs.declared.token.Key.TheVariants as key
 use Rattle.easl_model.specs.declared.token.Kind.{Kind}
 use Rattle.easl_model.specs.declared.token.Kind.TheVariants as kind
 use Rattle.easl_model.specs.declared.token.Mark.{Mark}
 use Rattle.easl_model.specs.declared.token.Token.{Token}
+use Rattle.easl_model.specs.declared.token.Tokens.{Tokens}
 use Rattle.easl_model.specs.declared.tree.Word.{Word}
 
 -- a character begins at this byte of the text, or the text ends there
@@ -43,3 +45,7 @@ pub record IsName (text : List ℕ) (t : Token) (w : Word) : Type 0 where
 pub record IsLiteral (text : List ℕ) (t : Token) (w : Word) : Type 0 where
   pub kind : IsTrue (is_literal t.kind)
   pub word : w ≡ word_of text t
+
+-- the word of each token of a text is what the token was cut from
+abbrev pub TokensAreWritten : Type 0
+TokensAreWritten = (text : List ℕ) (x : Tokens) → AreTokens text x → All (λ t. IsToken t.kind (word_of text t).name) x.list

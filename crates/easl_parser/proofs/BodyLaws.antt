@@ -1,5 +1,5 @@
 -- The reader of values, steps, clauses and returns reads their grammar.
-use Rattle.std.proofs.Common.{◌≡◌, ℕ, Bool, Option, Some, None, ◌||◌, List, [], ◌∷◌, ◌++◌, refl, sym, ◌∙◌, ap, subst, inl, inr}
+use Rattle.std.proofs.Common.{◌≡◌, ℕ, Bool, Option, Some, None, List, [], ◌∷◌, ◌++◌, refl, sym, ◌∙◌, ap, subst, inl, inr}
 use Rattle.easl_model.specs.Grammar.{IsFields, no_fields, next_field, IsPath, this_path, named_path, IsAny, IsListed, IsArg, path_arg, literal_arg, IsValue, path_value, new_value, IsSet, set, IsStep, declare, assign, IsClause, clause, IsReturn, no_return, with_return}
 use Rattle.easl_model.specs.Lexemes.{is_literal, word_of}
 use Rattle.easl_model.specs.declared.place.Place.{Place}
@@ -11,15 +11,14 @@ use Rattle.easl_model.specs.declared.token.Token.{Token}
 use Rattle.easl_model.specs.declared.tree.Arg.{Arg}
 use Rattle.easl_model.specs.declared.tree.Arg.TheVariants as arg
 use Rattle.easl_model.specs.declared.tree.Cond.{Cond}
-use Rattle.easl_model.specs.declared.tree.New.{New}
 use Rattle.easl_model.specs.declared.tree.Path.{Path}
 use Rattle.easl_model.specs.declared.tree.Step.{Step}
 use Rattle.easl_model.specs.declared.tree.Step.TheVariants as step
 use Rattle.easl_model.specs.declared.tree.Value.{Value}
 use Rattle.easl_model.specs.declared.tree.Value.TheVariants as value
 use Rattle.easl_model.specs.declared.tree.Word.{Word}
-use Rattle.cv_read.specs.Read.{Read, Got, ◌>>=◌, is_mark, is_key, is_name, nothing_of, place_of, before_mark, behind_key, items_at, step_at, listed_at}
-use Rattle.cv_read.proofs.Laws.{Lang, Is, none, either, Front, Sub, Apart, Reads, Then, Mapped, Or, End, both, mapped, empty, respell, front_avoids, front_append, front_less}
+use Rattle.cv_read.specs.Read.{Got, ◌>>=◌, is_mark, is_key, is_name, nothing_of, place_of, before_mark, behind_key, listed_at}
+use Rattle.cv_read.proofs.Laws.{Lang, none, either, Front, Apart, Reads, Then, Mapped, Or, End, both, mapped, empty, respell, front_avoids, front_append, front_less}
 use Rattle.cv_read.proofs.Repeats.{Star, ListGoes, listed_law, repeated, or_left, or_right}
 use Rattle.cv_read.proofs.Tested.{mark_to, mark_from, key_to, key_from, name_to, name_from, literal_to, literal_from}
 use Rattle.cv_read.proofs.Words.{Led, Closed, Parens, led, led_starts, closed, parens, two_ways, or_nothing}

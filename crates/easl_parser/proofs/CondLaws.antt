@@ -1,15 +1,13 @@
 -- The reader of conditions reads their grammar.
-use Rattle.std.proofs.Common.{◌≡◌, ℕ, zero, suc, Bool, true, false, ◌||◌, List, [], ◌∷◌, ◌++◌, refl, sym, ◌∙◌, ap, subst, append-nil, inl, inr, Some}
+use Rattle.std.proofs.Common.{◌≡◌, ℕ, zero, suc, Bool, true, false, List, [], ◌∷◌, ◌++◌, refl, sym, ◌∙◌, ap, subst, append-nil, inl, inr, Some}
 use Rattle.easl_model.specs.Grammar.{IsPath, named_path, no_fields, IsAny, any_one, any_more, IsAlls, no_alls, next_all, IsAll, all_one, all_more, IsAtoms, no_atoms, next_atom, IsAtom, same, differ, group}
-use Rattle.easl_model.specs.Lexemes.{word_of, IsName, IsMark}
+use Rattle.easl_model.specs.Lexemes.{word_of}
 use Rattle.easl_model.specs.declared.token.Kind.{Kind}
 use Rattle.easl_model.specs.declared.token.Kind.TheVariants as kind
 use Rattle.easl_model.specs.declared.token.Mark.TheVariants as mark
 use Rattle.easl_model.specs.declared.token.Token.{Token}
 use Rattle.easl_model.specs.declared.tree.Cond.{Cond}
 use Rattle.easl_model.specs.declared.tree.Cond.TheVariants as cond
-use Rattle.easl_model.specs.declared.tree.Path.{Path}
-use Rattle.easl_model.specs.declared.tree.Word.{Word}
 use Rattle.cv_read.specs.Read.{Read, Got, ◌>>=◌, is_mark, nothing_of, behind_mark, items_at, parens_at}
 use Rattle.cv_read.proofs.Laws.{Lang, none, either, Front, Apart, Reads, Then, Mapped, Or, End, both, mapped, empty, respell, never, token_of, avoids_none, front_avoids, then_starts}
 use Rattle.cv_read.proofs.Repeats.{Star, behind_star, repeated, or_left, or_right}

@@ -1,35 +1,33 @@
 -- What is spelled closes what it opens, and the reader goes too deep only where too many brackets stand.
-use Rattle.std.proofs.Common.{◌≡◌, ℕ, zero, suc, ◌+◌, ◌<◌, ◌≤◌, Bool, true, false, Option, Some, None, List, [], ◌∷◌, ◌++◌, refl, ◌∙◌, ap, arith}
+use Rattle.std.proofs.Common.{◌≡◌, ℕ, zero, suc, true, false, Option, Some, None, List, [], ◌∷◌, ◌++◌, refl, ◌∙◌, ap, arith}
 use Rattle.easl_model.specs.Brackets.{turned, level_after}
 use Rattle.easl_model.specs.Grammar.{IsFields, no_fields, next_field, IsPath, this_path, named_path, IsAny, any_one, any_more, IsAlls, no_alls, next_all, IsAll, all_one, all_more, IsAtoms, no_atoms, next_atom, IsAtom, same, differ, group, IsListed, IsArg, IsValue, IsSet, IsStep, IsClause, IsReturn, IsType, IsParam, IsParams, IsMember, IsClass}
 use Rattle.easl_model.specs.Lexemes.{is_literal, word_of}
 use Rattle.easl_model.specs.declared.place.Place.{Place}
 use Rattle.easl_model.specs.declared.token.Key.TheVariants as key
-use Rattle.easl_model.specs.declared.token.Kind.{Kind}
 use Rattle.easl_model.specs.declared.token.Kind.TheVariants as kind
 use Rattle.easl_model.specs.declared.token.Mark.TheVariants as mark
 use Rattle.easl_model.specs.declared.token.Token.{Token}
 use Rattle.easl_model.specs.declared.tree.Arg.TheVariants as arg
 use Rattle.easl_model.specs.declared.tree.Cond.{Cond}
 use Rattle.easl_model.specs.declared.tree.Member.TheVariants as member
-use Rattle.easl_model.specs.declared.tree.Param.{Param}
 use Rattle.easl_model.specs.declared.tree.Path.{Path}
 use Rattle.easl_model.specs.declared.tree.Sort.{Sort}
 use Rattle.easl_model.specs.declared.tree.Sort.TheVariants as sort
 use Rattle.easl_model.specs.declared.tree.Step.TheVariants as step
 use Rattle.easl_model.specs.declared.tree.Value.TheVariants as value
 use Rattle.easl_model.specs.declared.tree.Word.{Word}
-use Rattle.cv_read.specs.Read.{Read, Got, ◌>>=◌, take_at, is_mark, is_key, is_name, nothing_of, place_of, name_at, literal_at, mark_at, mark_place_at, behind_mark, behind_key, before_mark, items_at, step_at, listed_at, parens_at}
+use Rattle.cv_read.specs.Read.{Read, Got, ◌>>=◌, take_at, is_mark, is_key, is_name, nothing_of, place_of, name_at, literal_at, mark_at, mark_place_at, behind_mark, behind_key, before_mark, items_at, listed_at, parens_at}
 use Rattle.cv_read.proofs.Depth.{Even, Bounded, bounded_both, bounded_choose, bounded_take, bounded_got, bounded_bracket, bounded_items}
-use Rattle.cv_read.proofs.Laws.{Lang, Is, none, Reads, Then, Mapped, One, Or, End, mapped}
+use Rattle.cv_read.proofs.Laws.{none, Reads, Mapped, One, Or, End}
 use Rattle.cv_read.proofs.Levels.{Flat, Falls, mark_flat, key_flat, name_flat, literal_flat, open_opens, begin_opens, close_closes, end_closes, even_append, even_from, even_end, even_one, even_mapped, even_then, even_or, even_led, even_closed, even_star, even_listed, even_opened, even_parens, falls_one, falls_mapped, falls_then, bounded_mapped, bounded_led, bounded_closed, bounded_parens, bounded_listed}
-use Rattle.cv_read.proofs.Repeats.{Star, ListGoes, listed_law, repeated}
+use Rattle.cv_read.proofs.Repeats.{Star, ListGoes, listed_law}
 use Rattle.cv_read.proofs.Tested.{mark_from, key_from, name_from}
 use Rattle.cv_read.proofs.Unclosed.{level-append}
 use Rattle.cv_read.proofs.Words.{Led, Closed}
 use Rattle.easl_parser.specs.Reading.{path_of, path_starts, field_at, this_path_at, named_path_at, path_at, arg_starts, literal_arg_at, path_arg_at, arg_at, args_at, new_behind, new_at, path_value_at, value_at, sign_at, compare, comparison_at, one_or_all, one_or_any, and_by, or_by, atom_by, all_by, any_by, any_at, set_at, assign_at, declare_at, step_behind, this_step_at, named_step_at, step_read, steps_at, clause_at, clauses_at, return_some, return_at, is_opaque, opaque_of, opaque_at, class_type_at, type_at, type_starts, param_at, params_at, constructor_at, method_at, behind_two, two_names_at, behind_one, named_member_at, plain_at, plain_method_at, member_at, member_starts, members_at, class_at, classes_at, spec_at}
 use Rattle.easl_parser.proofs.PathLaws.{PathGoes, FieldLang, field_law, field_starts, field_apart, HeadFields, head_law, path_law}
-use Rattle.easl_parser.proofs.CondLaws.{AllGoes, AnyGoes, SignLang, sign_law, AndAtom, OrAll, atoms_to, alls_to, and_law, and_begins, and_apart, or_law, or_begins, or_apart, atom_law, all_law, conditions_law}
+use Rattle.easl_parser.proofs.CondLaws.{AllGoes, AnyGoes, SignLang, sign_law, AndAtom, OrAll, and_law, and_begins, and_apart, or_law, or_begins, or_apart, atom_law, all_law, conditions_law}
 use Rattle.easl_parser.proofs.BodyLaws as body
 use Rattle.easl_parser.proofs.MemberLaws as code
 

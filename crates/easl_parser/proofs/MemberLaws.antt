@@ -1,5 +1,5 @@
 -- The reader of members, classes and specifications reads their grammar.
-use Rattle.std.proofs.Common.{◌≡◌, ℕ, Bool, Option, Some, None, ◌||◌, List, [], ◌∷◌, ◌++◌, refl, sym, ◌∙◌, ap, subst, append_assoc, inl, inr}
+use Rattle.std.proofs.Common.{◌≡◌, ℕ, Bool, Option, None, List, [], ◌∷◌, ◌++◌, refl, sym, ◌∙◌, ap, subst, inl, inr}
 use Rattle.easl_model.specs.Grammar.{opaque_key, IsListed, IsClause, IsStep, IsReturn, no_return, with_return, IsType, opaque_type, class_type, IsResult, no_result, some_result, IsParam, param, IsParams, params, IsMember, field, constructor, method, IsClass, class, IsSpec, spec}
 use Rattle.easl_model.specs.Lexemes.{word_of, IsKey, IsName}
 use Rattle.easl_model.specs.declared.place.Place.{Place}
@@ -9,9 +9,7 @@ use Rattle.easl_model.specs.declared.token.Kind.TheVariants as kind
 use Rattle.easl_model.specs.declared.token.Mark.TheVariants as mark
 use Rattle.easl_model.specs.declared.token.Token.{Token}
 use Rattle.easl_model.specs.declared.tree.Class.{Class}
-use Rattle.easl_model.specs.declared.tree.Code.{Code}
 use Rattle.easl_model.specs.declared.tree.Cond.{Cond}
-use Rattle.easl_model.specs.declared.tree.Field.{Field}
 use Rattle.easl_model.specs.declared.tree.Member.{Member}
 use Rattle.easl_model.specs.declared.tree.Member.TheVariants as member
 use Rattle.easl_model.specs.declared.tree.Opaque.{Opaque}
@@ -23,13 +21,13 @@ use Rattle.easl_model.specs.declared.tree.Spec.{Spec}
 use Rattle.easl_model.specs.declared.tree.Step.{Step}
 use Rattle.easl_model.specs.declared.tree.Value.{Value}
 use Rattle.easl_model.specs.declared.tree.Word.{Word}
-use Rattle.cv_read.specs.Read.{Read, Got, ◌>>=◌, take_at, is_mark, is_key, is_name, nothing_of, place_of, name_at, mark_at, mark_place_at, behind_mark, behind_key, items_at, step_at, listed_at}
+use Rattle.cv_read.specs.Read.{Got, ◌>>=◌, is_mark, is_key, is_name, nothing_of, place_of, name_at, mark_at, mark_place_at, behind_mark, behind_key, listed_at}
 use Rattle.cv_read.proofs.Laws.{Lang, Is, none, either, Front, Apart, Reads, Then, Mapped, One, Or, End, both, one, mapped, empty, respell, avoids_none, front_avoids, front_append, front_less, then_starts}
 use Rattle.cv_read.proofs.Repeats.{Star, ListGoes, listed_law, repeated, star_starts, many_to, many_from, or_left, or_right}
 use Rattle.cv_read.proofs.Tested.{mark_to, mark_from, key_to, key_from, name_to, name_from}
-use Rattle.cv_read.proofs.Words.{Led, Closed, Parens, led, led_starts, parens, two_ways}
+use Rattle.cv_read.proofs.Words.{Led, Parens, led, led_starts, parens, two_ways}
 use Rattle.easl_parser.specs.Reading.{path_starts, steps_at, clauses_at, return_at, is_opaque, opaque_in, opaque_of, opaque_at, class_type_at, type_at, type_starts, param_at, params_at, constructor_at, method_at, behind_two, two_names_at, behind_one, named_member_at, plain_at, plain_method_at, member_at, member_starts, members_at, class_at, classes_at, spec_at}
-use Rattle.easl_parser.proofs.BodyLaws.{StepsGo, ClausesGo, no_none, steps_law, step_begins, clauses_law, clause_begins, return_law}
+use Rattle.easl_parser.proofs.BodyLaws.{StepsGo, ClausesGo, no_none, steps_law, step_begins, clauses_law, return_law}
 
 name_no_opaque : Apart is_name is_opaque
 name_no_opaque kind.Name f g = g

@@ -1,15 +1,13 @@
 -- Reading a specification is spelling it, and a text has one answer.
-use Rattle.std.proofs.Common.{◌≡◌, ◌≢◌, ℕ, zero, suc, pred, ◌+◌, ◌<◌, ◌≤◌, List, [], ◌∷◌, ◌++◌, length, Ok, Err, Result, refl, sym, ◌∙◌, ap, subst, arith}
+use Rattle.std.proofs.Common.{◌≡◌, ◌≢◌, ℕ, zero, suc, ◌+◌, ◌<◌, ◌≤◌, List, [], ◌∷◌, length, Ok, Err, Result, refl, sym, ◌∙◌, ap, subst, arith}
 use Rattle.std.specs.Prelude.{IsUtf8}
 use Rattle.cv_lex.specs.Form as lex
 use Rattle.cv_lex.specs.declared.fault.TextFault.{TextFault}
 use Rattle.cv_lex.specs.declared.fault.TextFault.TheVariants.{NotUtf8, BadToken, Limit, NotBuilt, Syntax, Memory}
-use Rattle.cv_lex.specs.declared.fault.Which.{Which}
 use Rattle.cv_lex.specs.declared.fault.Which.TheVariants.{Nesting}
-use Rattle.easl_model.specs.Brackets.{turned, level_after, StaysShallow, Shallow}
+use Rattle.easl_model.specs.Brackets.{turned, StaysShallow, Shallow}
 use Rattle.easl_model.specs.Grammar.{IsSpec}
-use Rattle.easl_model.specs.Spelling.{OneTree, first_place}
-use Rattle.easl_model.specs.Tokens.{AreTokens}
+use Rattle.easl_model.specs.Spelling.{OneTree}
 use Rattle.easl_model.specs.declared.place.Place.{Place}
 use Rattle.easl_model.specs.declared.token.Kind.{Kind}
 use Rattle.easl_model.specs.declared.token.Kind.TheVariants as kind
@@ -18,13 +16,13 @@ use Rattle.easl_model.specs.declared.token.Token.{Token}
 use Rattle.easl_model.specs.declared.token.Tokens.{Tokens}
 use Rattle.easl_model.specs.declared.tree.Spec.{Spec}
 use Rattle.easl_model.proofs.Cuts.{one_list}
-use Rattle.cv_read.specs.Faults.{placed, Nests, WrongAt}
+use Rattle.cv_read.specs.Faults.{placed, Nests}
 use Rattle.cv_read.specs.Read.{Read, Got, Stuck, Deep, ◌>>=◌, GivesWhole, done_at, whole_at}
 use Rattle.cv_read.specs.declared.fault.ReadFault.{ReadFault}
 use Rattle.cv_read.specs.declared.fault.ReadFault.TheVariants as read
 use Rattle.cv_read.proofs.Lefts.{place_left, shallow_not_deep, one_deep}
 use Rattle.cv_read.proofs.Whole.{read_spells, spells_one, stops_first, unlike, wrong_one}
-use Rattle.easl_parser.specs.Answers.{AreTaken, IsTooDeepAt, IsFirstWrongAt, Answers, OneAnswer, Finds}
+use Rattle.easl_parser.specs.Answers.{AreTaken, IsTooDeepAt, IsFirstWrongAt, Answers, OneAnswer, FindsSpec}
 use Rattle.easl_parser.specs.Reading.{spec_at}
 use Rattle.easl_parser.proofs.DepthLaws.{spec_bound}
 use Rattle.easl_parser.proofs.MemberLaws.{SpecGoes, spec_law}
@@ -61,13 +59,13 @@ one_tree text end ts x y = spells_one (spec_at text (suc (length ts)) end) (IsSp
     (not_deep text (length ts) (length ts) end ts (omega arith) (shallow_long ts 0 (length ts) (omega arith)))
 
 -- from the reading to what the grammar says
-pub found : (text : List ℕ) (end : Place) (ts : List Token) (r : Result Spec ReadFault) → Shallow ts → GivesWhole r (whole_at (spec_at text 63 end) ts) → Finds text end ts r
+pub found : (text : List ℕ) (end : Place) (ts : List Token) (r : Result Spec ReadFault) → Shallow ts → GivesWhole r (whole_at (spec_at text 63 end) ts) → FindsSpec text end ts r
 found text end ts (Ok x) s e = (s, read_spells (spec_at text 63 end) (IsSpec text end) SpecGoes (spec_law text 63 end) ts x e)
 found text end ts (Err read.Memory) s e = tt
 found text end ts (Err (read.Nesting left)) s e = absurd (whole_not_deep text end ts s e)
 found text end ts (Err (read.Syntax left)) s e = (s, stops_first (spec_at text 63 end) (IsSpec text end) SpecGoes (spec_law text 63 end) ts left e)
 
-pub too_deep : (text : List ℕ) (end : Place) (ts : List Token) (e : ReadFault) → Nests ts (Err e) → Finds text end ts (Err e)
+pub too_deep : (text : List ℕ) (end : Place) (ts : List Token) (e : ReadFault) → Nests ts (Err e) → FindsSpec text end ts (Err e)
 too_deep text end ts (read.Nesting left) h = h
 too_deep text end ts (read.Syntax left) h = absurd h
 too_deep text end ts read.Memory h = tt
@@ -88,10 +86,10 @@ no_text text x h n = absurd (n h.1.utf8)
 taken : (text : List ℕ) (x : Tokens) → lex.Answers text (Ok x) → AreTaken text x
 taken text x h = record { form = h.0; tokens = h.1 }
 
-pub tree_answers : (text : List ℕ) (x : Tokens) (s : Spec) → lex.Answers text (Ok x) → Finds text x.end x.list (Ok s) → Answers text (Ok s)
+pub tree_answers : (text : List ℕ) (x : Tokens) (s : Spec) → lex.Answers text (Ok x) → FindsSpec text x.end x.list (Ok s) → Answers text (Ok s)
 tree_answers text x s h f = (x, taken text x h, f.0, f.1)
 
-pub fault_answers : (text : List ℕ) (x : Tokens) (e : ReadFault) → lex.Answers text (Ok x) → Finds text x.end x.list (Err e) → Answers text (Err (placed x e))
+pub fault_answers : (text : List ℕ) (x : Tokens) (e : ReadFault) → lex.Answers text (Ok x) → FindsSpec text x.end x.list (Err e) → Answers text (Err (placed x e))
 fault_answers text x (read.Nesting left) h f = (x, taken text x h, (f.0, f.1, f.2, f.3, f.5, place_left x f.0 (f.1 ∷ f.2) left f.3 f.4))
 fault_answers text x (read.Syntax left) h f = (x, taken text x h, f.0, (f.1.0, f.1.1, f.1.2, f.1.4, place_left x f.1.0 f.1.1 left f.1.2 f.1.3))
 fault_answers text x read.Memory h f = tt

@@ -42,8 +42,8 @@ abbrev pub OneAnswer : Type 0
 OneAnswer = (text : List ℕ) (r s : Result Spec TextFault) → r ≢ Err Memory → s ≢ Err Memory → Answers text r → Answers text s → r ≡ s
 
 -- what is found in the tokens of a text that ends at the place
-abbrev pub Finds : List ℕ → Place → List Token → Result Spec ReadFault → Type 0
-Finds text end ts (Ok spec) = Shallow ts × IsSpec text end ts spec
-Finds text end ts (Err (read.Nesting left)) = DeepAt ts left
-Finds text end ts (Err (read.Syntax left)) = Shallow ts × WrongAt (IsSpec text end) ts left
-Finds text end ts (Err read.Memory) = Unit {0}
+abbrev pub FindsSpec : List ℕ → Place → List Token → Result Spec ReadFault → Type 0
+FindsSpec text end ts (Ok spec) = Shallow ts × IsSpec text end ts spec
+FindsSpec text end ts (Err (read.Nesting left)) = DeepAt ts left
+FindsSpec text end ts (Err (read.Syntax left)) = Shallow ts × WrongAt (IsSpec text end) ts left
+FindsSpec text end ts (Err read.Memory) = Unit {0}

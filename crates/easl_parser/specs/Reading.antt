@@ -10,13 +10,10 @@ use Rattle.easl_model.specs.declared.token.Token.{Token}
 use Rattle.easl_model.specs.declared.tree.Arg.{Arg}
 use Rattle.easl_model.specs.declared.tree.Arg.TheVariants as arg
 use Rattle.easl_model.specs.declared.tree.Class.{Class}
-use Rattle.easl_model.specs.declared.tree.Code.{Code}
 use Rattle.easl_model.specs.declared.tree.Cond.{Cond}
 use Rattle.easl_model.specs.declared.tree.Cond.TheVariants as cond
-use Rattle.easl_model.specs.declared.tree.Field.{Field}
 use Rattle.easl_model.specs.declared.tree.Member.{Member}
 use Rattle.easl_model.specs.declared.tree.Member.TheVariants as member
-use Rattle.easl_model.specs.declared.tree.New.{New}
 use Rattle.easl_model.specs.declared.tree.Opaque.{Opaque}
 use Rattle.easl_model.specs.declared.tree.Opaque.TheVariants as opaque
 use Rattle.easl_model.specs.declared.tree.Param.{Param}
@@ -29,7 +26,7 @@ use Rattle.easl_model.specs.declared.tree.Step.TheVariants as step
 use Rattle.easl_model.specs.declared.tree.Value.{Value}
 use Rattle.easl_model.specs.declared.tree.Value.TheVariants as value
 use Rattle.easl_model.specs.declared.tree.Word.{Word}
-use Rattle.cv_read.specs.Read.{Read, Got, Deep, ◌>>=◌, begins, take_at, choose, is_mark, is_key, is_name, mark_at, key_at, mark_place_at, key_place_at, name_at, literal_at, behind_mark, behind_key, before_mark, step_at, items_at, commas_at, listed_at, parens_at}
+use Rattle.cv_read.specs.Read.{Read, Got, Deep, ◌>>=◌, take_at, choose, is_mark, is_key, is_name, mark_at, key_at, mark_place_at, key_place_at, name_at, literal_at, behind_mark, behind_key, before_mark, step_at, items_at, listed_at, parens_at}
 
 -- paths
 abbrev pub field_at : List ℕ → List Token → Read (Option Word)
@@ -149,14 +146,24 @@ this_step_at text ts = key_place_at key.This ts >>= λ at us. assign_at text Non
 unfoldable pub step_read : List ℕ → List Token → Read Step
 step_read text = choose (is_key key.This) (this_step_at text) (named_step_at text)
 
+abbrev pub maybe_step_at : List ℕ → List Token → Read (Option Step)
+maybe_step_at text = step_at path_starts (step_read text)
+
 abbrev pub steps_at : List ℕ → List Token → Read (List Step)
-steps_at text = items_at (step_at path_starts (step_read text))
+steps_at text = items_at (maybe_step_at text)
+
+-- a clause behind its keyword
+abbrev pub condition_at : List ℕ → ℕ → List Token → Read Cond
+condition_at text d = before_mark mark.Semicolon (any_at text d)
 
 unfoldable pub clause_at : List ℕ → ℕ → List Token → Read Cond
-clause_at text d = behind_key key.Requires (before_mark mark.Semicolon (any_at text d))
+clause_at text d = behind_key key.Requires (condition_at text d)
+
+abbrev pub maybe_clause_at : List ℕ → ℕ → List Token → Read (Option Cond)
+maybe_clause_at text d = step_at (is_key key.Requires) (clause_at text d)
 
 abbrev pub clauses_at : List ℕ → ℕ → List Token → Read (List Cond)
-clauses_at text d = items_at (step_at (is_key key.Requires) (clause_at text d))
+clauses_at text d = items_at (maybe_clause_at text d)
 
 abbrev pub return_some : List ℕ → List Token → Read (Option Value)
 return_some text ts = before_mark mark.Semicolon (value_at text) ts >>= λ x us. Got (Some x) us
@@ -237,15 +244,21 @@ member_at text d = choose is_name (named_member_at text d) (plain_method_at text
 abbrev pub member_starts : Kind → Bool
 member_starts k = is_key key.Void k || type_starts k
 
+abbrev pub maybe_member_at : List ℕ → ℕ → List Token → Read (Option Member)
+maybe_member_at text d = step_at member_starts (member_at text d)
+
 abbrev pub members_at : List ℕ → ℕ → List Token → Read (List Member)
-members_at text d = items_at (step_at member_starts (member_at text d))
+members_at text d = items_at (maybe_member_at text d)
 
 unfoldable pub class_at : List ℕ → ℕ → List Token → Read Class
 class_at text d ts = key_at key.Class ts >>= λ _ us. name_at text us >>= λ n vs. mark_at mark.Begin vs >>= λ _ ws. members_at text d ws >>= λ xs ys. mark_at mark.End ys >>= λ _ zs.
     Got (record { name = n; members = xs }) zs
 
+abbrev pub maybe_class_at : List ℕ → ℕ → List Token → Read (Option Class)
+maybe_class_at text d = step_at (is_key key.Class) (class_at text d)
+
 abbrev pub classes_at : List ℕ → ℕ → List Token → Read (List Class)
-classes_at text d = items_at (step_at (is_key key.Class) (class_at text d))
+classes_at text d = items_at (maybe_class_at text d)
 
 unfoldable pub spec_at : List ℕ → ℕ → Place → List Token → Read Spec
 spec_at text d end ts = class_at text d ts >>= λ x us. classes_at text d us >>= λ xs vs. Got (record { classes = x ∷ xs; end = end }) vs

@@ -1,9 +1,7 @@
 //! What stands in the braces of a constructor or a method: clauses, steps and a return.
 ghost use Rattle.std.specs.Prelude.{◌≡◌, ◌<◌, ◌≤◌, Some, length, IfOk, IsSome};
-ghost use Rattle.easl_model.specs.declared.token.Key.TheVariants as key;
-ghost use Rattle.easl_model.specs.declared.token.Mark.TheVariants as mark;
-ghost use Rattle.cv_read.specs.Read.{Gives, before_mark, begins, is_key, step_at};
-ghost use Rattle.easl_parser.specs.Reading.{any_at, clause_at, clauses_at, path_starts, step_read, steps_at, step_behind, named_step_at, declare_at, assign_at, set_at, return_some, return_at};
+ghost use Rattle.cv_read.specs.Read.{Gives, begins};
+ghost use Rattle.easl_parser.specs.Reading.{condition_at, maybe_clause_at, clauses_at, path_starts, maybe_step_at, step_read, steps_at, step_behind, named_step_at, declare_at, assign_at, set_at, return_some, return_at};
 
 use crate::conditions::any;
 use crate::paths::{is_path_start, path_of, value};
@@ -18,7 +16,7 @@ pub(crate) fn clauses<'a>(
     depth: u32,
     tokens: &'a [Token],
 ) -> Result<(Items<Cond>, &'a [Token]), ReadFault>
-    ensures reads { Gives (λ x. x.0) (λ x. x.1.now) result (clauses_at source.entry.text.now depth tokens.now) }
+    ensures reads { Gives result (clauses_at source.entry.text.now depth tokens.now) }
     ensures shorter { IfOk result (λ x. length x.1.now ≤ length tokens.now) }
 {
     let mut found = Items::new(source.alloc);
@@ -39,7 +37,7 @@ fn maybe_clause<'a>(
     depth: u32,
     tokens: &'a [Token],
 ) -> Result<(Option<Cond>, &'a [Token]), ReadFault>
-    ensures reads { Gives (λ x. x.0) (λ x. x.1.now) result (step_at (is_key key.Requires) (clause_at source.entry.text.now depth) tokens.now) }
+    ensures reads { Gives result (maybe_clause_at source.entry.text.now depth tokens.now) }
     ensures shorter { IfOk result (λ x. length x.1.now ≤ length tokens.now) }
     ensures takes { IfOk result (λ x. IsSome x.0 → length x.1.now < length tokens.now) }
 {
@@ -58,7 +56,7 @@ fn condition<'a>(
     depth: u32,
     tokens: &'a [Token],
 ) -> Result<(Cond, &'a [Token]), ReadFault>
-    ensures reads { Gives (λ x. x.0) (λ x. x.1.now) result (before_mark mark.Semicolon (any_at source.entry.text.now depth) tokens.now) }
+    ensures reads { Gives result (condition_at source.entry.text.now depth tokens.now) }
     ensures shorter { IfOk result (λ x. length x.1.now < length tokens.now) }
 {
     let (found, rest) = any(source, depth, tokens)?;
@@ -72,7 +70,7 @@ pub(crate) fn steps<'a>(
     source: Source<'_>,
     tokens: &'a [Token],
 ) -> Result<(Items<Step>, &'a [Token]), ReadFault>
-    ensures reads { Gives (λ x. x.0) (λ x. x.1.now) result (steps_at source.entry.text.now tokens.now) }
+    ensures reads { Gives result (steps_at source.entry.text.now tokens.now) }
     ensures shorter { IfOk result (λ x. length x.1.now ≤ length tokens.now) }
 {
     let mut found = Items::new(source.alloc);
@@ -91,7 +89,7 @@ fn maybe_step<'a>(
     source: Source<'_>,
     tokens: &'a [Token],
 ) -> Result<(Option<Step>, &'a [Token]), ReadFault>
-    ensures reads { Gives (λ x. x.0) (λ x. x.1.now) result (step_at path_starts (step_read source.entry.text.now) tokens.now) }
+    ensures reads { Gives result (maybe_step_at source.entry.text.now tokens.now) }
     ensures shorter { IfOk result (λ x. length x.1.now ≤ length tokens.now) }
     ensures takes { IfOk result (λ x. IsSome x.0 → length x.1.now < length tokens.now) }
 {
@@ -115,7 +113,7 @@ fn begins_step(tokens: &[Token]) -> bool
 /// `Name Name "=" value ";" | path "=" value ";"`
 #[tactic(auto, unfolding(crate::specs::Reading::step_read))]
 fn step<'a>(source: Source<'_>, tokens: &'a [Token]) -> Result<(Step, &'a [Token]), ReadFault>
-    ensures reads { Gives (λ x. x.0) (λ x. x.1.now) result (step_read source.entry.text.now tokens.now) }
+    ensures reads { Gives result (step_read source.entry.text.now tokens.now) }
     ensures shorter { IfOk result (λ x. length x.1.now < length tokens.now) }
 {
     match placed_key(Key::This, tokens) {
@@ -125,7 +123,7 @@ fn step<'a>(source: Source<'_>, tokens: &'a [Token]) -> Result<(Step, &'a [Token
 }
 
 fn named_step<'a>(source: Source<'_>, tokens: &'a [Token]) -> Result<(Step, &'a [Token]), ReadFault>
-    ensures reads { Gives (λ x. x.0) (λ x. x.1.now) result (named_step_at source.entry.text.now tokens.now) }
+    ensures reads { Gives result (named_step_at source.entry.text.now tokens.now) }
     ensures shorter { IfOk result (λ x. length x.1.now < length tokens.now) }
 {
     let (first, rest) = name(source, tokens)?;
@@ -138,7 +136,7 @@ fn behind_name<'a>(
     first: Word,
     tokens: &'a [Token],
 ) -> Result<(Step, &'a [Token]), ReadFault>
-    ensures reads { Gives (λ x. x.0) (λ x. x.1.now) result (step_behind source.entry.text.now first tokens.now) }
+    ensures reads { Gives result (step_behind source.entry.text.now first tokens.now) }
     ensures shorter { IfOk result (λ x. length x.1.now < length tokens.now) }
 {
     let place = first.place;
@@ -154,7 +152,7 @@ fn declare<'a>(
     class: Word,
     tokens: &'a [Token],
 ) -> Result<(Step, &'a [Token]), ReadFault>
-    ensures reads { Gives (λ x. x.0) (λ x. x.1.now) result (declare_at source.entry.text.now class tokens.now) }
+    ensures reads { Gives result (declare_at source.entry.text.now class tokens.now) }
     ensures shorter { IfOk result (λ x. length x.1.now < length tokens.now) }
 {
     let (name, rest) = name(source, tokens)?;
@@ -168,7 +166,7 @@ fn assign<'a>(
     place: Place,
     tokens: &'a [Token],
 ) -> Result<(Step, &'a [Token]), ReadFault>
-    ensures reads { Gives (λ x. x.0) (λ x. x.1.now) result (assign_at source.entry.text.now head place tokens.now) }
+    ensures reads { Gives result (assign_at source.entry.text.now head place tokens.now) }
     ensures shorter { IfOk result (λ x. length x.1.now < length tokens.now) }
 {
     let (path, rest) = path_of(source, head, place, tokens)?;
@@ -179,7 +177,7 @@ fn assign<'a>(
 /// `"=" value ";"`
 #[tactic(auto, unfolding(crate::specs::Reading::set_at))]
 fn assigned<'a>(source: Source<'_>, tokens: &'a [Token]) -> Result<(Value, &'a [Token]), ReadFault>
-    ensures reads { Gives (λ x. x.0) (λ x. x.1.now) result (set_at source.entry.text.now tokens.now) }
+    ensures reads { Gives result (set_at source.entry.text.now tokens.now) }
     ensures shorter { IfOk result (λ x. length x.1.now < length tokens.now) }
 {
     let rest = mark(Mark::Assign, tokens)?;
@@ -194,7 +192,7 @@ pub(crate) fn returned<'a>(
     source: Source<'_>,
     tokens: &'a [Token],
 ) -> Result<(Option<Value>, &'a [Token]), ReadFault>
-    ensures reads { Gives (λ x. x.0) (λ x. x.1.now) result (return_at source.entry.text.now tokens.now) }
+    ensures reads { Gives result (return_at source.entry.text.now tokens.now) }
     ensures shorter { IfOk result (λ x. length x.1.now ≤ length tokens.now) }
 {
     match after_key(Key::Return, tokens) {
@@ -208,7 +206,7 @@ fn some_returned<'a>(
     source: Source<'_>,
     tokens: &'a [Token],
 ) -> Result<(Option<Value>, &'a [Token]), ReadFault>
-    ensures reads { Gives (λ x. x.0) (λ x. x.1.now) result (return_some source.entry.text.now tokens.now) }
+    ensures reads { Gives result (return_some source.entry.text.now tokens.now) }
     ensures shorter { IfOk result (λ x. length x.1.now < length tokens.now) }
 {
     let (value, rest) = value(source, tokens)?;

@@ -21,7 +21,7 @@ pub(crate) fn any<'a>(
     depth: u32,
     tokens: &'a [Token],
 ) -> Result<(Cond, &'a [Token]), ReadFault>
-    ensures reads { Gives (λ x. x.0) (λ x. x.1.now) result (any_at source.entry.text.now depth tokens.now) }
+    ensures reads { Gives result (any_at source.entry.text.now depth tokens.now) }
     ensures shorter { IfOk result (λ x. length x.1.now < length tokens.now) }
 {
     if depth == 0 {
@@ -37,7 +37,7 @@ fn any_within<'a>(
     depth: u32,
     tokens: &'a [Token],
 ) -> Result<(Cond, &'a [Token]), ReadFault>
-    ensures reads { Gives (λ x. x.0) (λ x. x.1.now) result (any_by (all_at source.entry.text.now depth) tokens.now) }
+    ensures reads { Gives result (any_by (all_at source.entry.text.now depth) tokens.now) }
     ensures shorter { IfOk result (λ x. length x.1.now < length tokens.now) }
 {
     let (first, rest) = all(source, depth, tokens)?;
@@ -52,7 +52,7 @@ fn or_alls<'a>(
     depth: u32,
     tokens: &'a [Token],
 ) -> Result<(Items<Cond>, &'a [Token]), ReadFault>
-    ensures reads { Gives (λ x. x.0) (λ x. x.1.now) result (items_at (or_by (all_at source.entry.text.now depth)) tokens.now) }
+    ensures reads { Gives result (items_at (or_by (all_at source.entry.text.now depth)) tokens.now) }
     ensures shorter { IfOk result (λ x. length x.1.now ≤ length tokens.now) }
 {
     let mut found = Items::new(source.alloc);
@@ -73,7 +73,7 @@ fn or_all<'a>(
     depth: u32,
     tokens: &'a [Token],
 ) -> Result<(Option<Cond>, &'a [Token]), ReadFault>
-    ensures reads { Gives (λ x. x.0) (λ x. x.1.now) result (or_by (all_at source.entry.text.now depth) tokens.now) }
+    ensures reads { Gives result (or_by (all_at source.entry.text.now depth) tokens.now) }
     ensures shorter { IfOk result (λ x. length x.1.now ≤ length tokens.now) }
     ensures takes { IfOk result (λ x. IsSome x.0 → length x.1.now < length tokens.now) }
 {
@@ -94,7 +94,7 @@ fn all<'a>(
     depth: u32,
     tokens: &'a [Token],
 ) -> Result<(Cond, &'a [Token]), ReadFault>
-    ensures reads { Gives (λ x. x.0) (λ x. x.1.now) result (all_at source.entry.text.now depth tokens.now) }
+    ensures reads { Gives result (all_at source.entry.text.now depth tokens.now) }
     ensures shorter { IfOk result (λ x. length x.1.now < length tokens.now) }
 {
     let (first, rest) = atom(source, depth, tokens)?;
@@ -109,7 +109,7 @@ fn and_atoms<'a>(
     depth: u32,
     tokens: &'a [Token],
 ) -> Result<(Items<Cond>, &'a [Token]), ReadFault>
-    ensures reads { Gives (λ x. x.0) (λ x. x.1.now) result (items_at (and_by (atom_at source.entry.text.now depth)) tokens.now) }
+    ensures reads { Gives result (items_at (and_by (atom_at source.entry.text.now depth)) tokens.now) }
     ensures shorter { IfOk result (λ x. length x.1.now ≤ length tokens.now) }
 {
     let mut found = Items::new(source.alloc);
@@ -130,7 +130,7 @@ fn and_atom<'a>(
     depth: u32,
     tokens: &'a [Token],
 ) -> Result<(Option<Cond>, &'a [Token]), ReadFault>
-    ensures reads { Gives (λ x. x.0) (λ x. x.1.now) result (and_by (atom_at source.entry.text.now depth) tokens.now) }
+    ensures reads { Gives result (and_by (atom_at source.entry.text.now depth) tokens.now) }
     ensures shorter { IfOk result (λ x. length x.1.now ≤ length tokens.now) }
     ensures takes { IfOk result (λ x. IsSome x.0 → length x.1.now < length tokens.now) }
 {
@@ -149,7 +149,7 @@ fn atom<'a>(
     depth: u32,
     tokens: &'a [Token],
 ) -> Result<(Cond, &'a [Token]), ReadFault>
-    ensures reads { Gives (λ x. x.0) (λ x. x.1.now) result (atom_at source.entry.text.now depth tokens.now) }
+    ensures reads { Gives result (atom_at source.entry.text.now depth tokens.now) }
     ensures shorter { IfOk result (λ x. length x.1.now < length tokens.now) }
 {
     match after_mark(Mark::Open, tokens) {
@@ -165,7 +165,7 @@ fn group<'a>(
     depth: u32,
     tokens: &'a [Token],
 ) -> Result<(Cond, &'a [Token]), ReadFault>
-    ensures reads { Gives (λ x. x.0) (λ x. x.1.now) result (before_mark mark.Close (any_at source.entry.text.now depth) tokens.now) }
+    ensures reads { Gives result (before_mark mark.Close (any_at source.entry.text.now depth) tokens.now) }
     ensures shorter { IfOk result (λ x. length x.1.now < length tokens.now) }
 {
     let (found, rest) = any(source, depth, tokens)?;
@@ -176,7 +176,7 @@ fn group<'a>(
 /// `path ("==" | "!=") path`
 #[tactic(auto, unfolding(crate::specs::Reading::comparison_at))]
 fn comparison<'a>(source: Source<'_>, tokens: &'a [Token]) -> Result<(Cond, &'a [Token]), ReadFault>
-    ensures reads { Gives (λ x. x.0) (λ x. x.1.now) result (comparison_at source.entry.text.now tokens.now) }
+    ensures reads { Gives result (comparison_at source.entry.text.now tokens.now) }
     ensures shorter { IfOk result (λ x. length x.1.now < length tokens.now) }
 {
     let (left, rest) = path(source, tokens)?;
@@ -187,7 +187,7 @@ fn comparison<'a>(source: Source<'_>, tokens: &'a [Token]) -> Result<(Cond, &'a 
 
 /// Whether it is `==`, where it is `==` or `!=`.
 fn sign(tokens: &[Token]) -> Result<(bool, &[Token]), ReadFault>
-    ensures reads { Gives (λ x. x.0) (λ x. x.1.now) result (sign_at tokens.now) }
+    ensures reads { Gives result (sign_at tokens.now) }
     ensures shorter { IfOk result (λ x. length x.1.now < length tokens.now) }
 {
     match after_mark(Mark::Same, tokens) {
@@ -197,7 +197,7 @@ fn sign(tokens: &[Token]) -> Result<(bool, &[Token]), ReadFault>
 }
 
 fn differs(tokens: &[Token]) -> Result<(bool, &[Token]), ReadFault>
-    ensures reads { Gives (λ x. x.0) (λ x. x.1.now) result (behind_mark mark.Differ (λ us. Got false us) tokens.now) }
+    ensures reads { Gives result (behind_mark mark.Differ (λ us. Got false us) tokens.now) }
     ensures shorter { IfOk result (λ x. length x.1.now < length tokens.now) }
 {
     let rest = mark(Mark::Differ, tokens)?;

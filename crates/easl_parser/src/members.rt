@@ -1,8 +1,8 @@
 //! Classes and their members. Where rules begin alike, the common part is read first.
 ghost use Rattle.std.specs.Prelude.{◌≡◌, ◌<◌, ◌≤◌, true, false, length, IfOk, IfSome, IsSome, MatchOption};
 ghost use Rattle.easl_model.specs.declared.tree.Sort.TheVariants as sort;
-ghost use Rattle.cv_read.specs.Read.{Gives, FindsFirst, begins, step_at, commas_at, more_at, next_at, listed_at};
-ghost use Rattle.easl_parser.specs.Reading.{is_opaque, opaque_in, opaque_of, type_starts, type_at, class_type_at, param_at, params_at, constructor_at, method_at, behind_two, two_names_at, behind_one, named_member_at, plain_at, opaque_at, plain_method_at, member_at, member_starts, members_at, class_at};
+ghost use Rattle.cv_read.specs.Read.{Gives, Finds, begins, commas_at, more_at, next_at, listed_at};
+ghost use Rattle.easl_parser.specs.Reading.{is_opaque, opaque_in, opaque_of, type_starts, type_at, class_type_at, param_at, params_at, constructor_at, method_at, behind_two, two_names_at, behind_one, named_member_at, plain_at, opaque_at, plain_method_at, member_at, member_starts, maybe_member_at, members_at, class_at};
 
 use crate::bodies::{clauses, returned, steps};
 use cv_read::{
@@ -19,7 +19,7 @@ pub(crate) fn class<'a>(
     depth: u32,
     tokens: &'a [Token],
 ) -> Result<(Class, &'a [Token]), ReadFault>
-    ensures reads { Gives (λ x. x.0) (λ x. x.1.now) result (class_at source.entry.text.now depth tokens.now) }
+    ensures reads { Gives result (class_at source.entry.text.now depth tokens.now) }
     ensures shorter { IfOk result (λ x. length x.1.now < length tokens.now) }
 {
     let rest = key(Key::Class, tokens)?;
@@ -37,7 +37,7 @@ fn members<'a>(
     depth: u32,
     tokens: &'a [Token],
 ) -> Result<(Items<Member>, &'a [Token]), ReadFault>
-    ensures reads { Gives (λ x. x.0) (λ x. x.1.now) result (members_at source.entry.text.now depth tokens.now) }
+    ensures reads { Gives result (members_at source.entry.text.now depth tokens.now) }
     ensures shorter { IfOk result (λ x. length x.1.now ≤ length tokens.now) }
 {
     let mut found = Items::new(source.alloc);
@@ -57,7 +57,7 @@ fn maybe_member<'a>(
     depth: u32,
     tokens: &'a [Token],
 ) -> Result<(Option<Member>, &'a [Token]), ReadFault>
-    ensures reads { Gives (λ x. x.0) (λ x. x.1.now) result (step_at member_starts (member_at source.entry.text.now depth) tokens.now) }
+    ensures reads { Gives result (maybe_member_at source.entry.text.now depth tokens.now) }
     ensures shorter { IfOk result (λ x. length x.1.now ≤ length tokens.now) }
     ensures takes { IfOk result (λ x. IsSome x.0 → length x.1.now < length tokens.now) }
 {
@@ -92,7 +92,7 @@ fn member<'a>(
     depth: u32,
     tokens: &'a [Token],
 ) -> Result<(Member, &'a [Token]), ReadFault>
-    ensures reads { Gives (λ x. x.0) (λ x. x.1.now) result (member_at source.entry.text.now depth tokens.now) }
+    ensures reads { Gives result (member_at source.entry.text.now depth tokens.now) }
     ensures shorter { IfOk result (λ x. length x.1.now < length tokens.now) }
 {
     if begins_name(tokens) {
@@ -108,7 +108,7 @@ fn named_member<'a>(
     depth: u32,
     tokens: &'a [Token],
 ) -> Result<(Member, &'a [Token]), ReadFault>
-    ensures reads { Gives (λ x. x.0) (λ x. x.1.now) result (named_member_at source.entry.text.now depth tokens.now) }
+    ensures reads { Gives result (named_member_at source.entry.text.now depth tokens.now) }
     ensures shorter { IfOk result (λ x. length x.1.now < length tokens.now) }
 {
     let (first, rest) = name(source, tokens)?;
@@ -122,7 +122,7 @@ fn behind_name<'a>(
     first: Word,
     tokens: &'a [Token],
 ) -> Result<(Member, &'a [Token]), ReadFault>
-    ensures reads { Gives (λ x. x.0) (λ x. x.1.now) result (behind_one source.entry.text.now depth first tokens.now) }
+    ensures reads { Gives result (behind_one source.entry.text.now depth first tokens.now) }
     ensures shorter { IfOk result (λ x. length x.1.now < length tokens.now) }
 {
     if begins_mark(Mark::Open, tokens) {
@@ -139,7 +139,7 @@ fn behind_class<'a>(
     class: Word,
     tokens: &'a [Token],
 ) -> Result<(Member, &'a [Token]), ReadFault>
-    ensures reads { Gives (λ x. x.0) (λ x. x.1.now) result (two_names_at source.entry.text.now depth class tokens.now) }
+    ensures reads { Gives result (two_names_at source.entry.text.now depth class tokens.now) }
     ensures shorter { IfOk result (λ x. length x.1.now < length tokens.now) }
 {
     let (name, rest) = name(source, tokens)?;
@@ -154,7 +154,7 @@ fn behind_both<'a>(
     name: Word,
     tokens: &'a [Token],
 ) -> Result<(Member, &'a [Token]), ReadFault>
-    ensures reads { Gives (λ x. x.0) (λ x. x.1.now) result (behind_two source.entry.text.now depth class name tokens.now) }
+    ensures reads { Gives result (behind_two source.entry.text.now depth class name tokens.now) }
     ensures shorter { IfOk result (λ x. length x.1.now < length tokens.now) }
 {
     match after_mark(Mark::Semicolon, tokens) {
@@ -169,7 +169,7 @@ fn plain_method<'a>(
     depth: u32,
     tokens: &'a [Token],
 ) -> Result<(Member, &'a [Token]), ReadFault>
-    ensures reads { Gives (λ x. x.0) (λ x. x.1.now) result (plain_method_at source.entry.text.now depth tokens.now) }
+    ensures reads { Gives result (plain_method_at source.entry.text.now depth tokens.now) }
     ensures shorter { IfOk result (λ x. length x.1.now < length tokens.now) }
 {
     let (sort, rest) = plain(tokens)?;
@@ -178,7 +178,7 @@ fn plain_method<'a>(
 }
 
 fn plain(tokens: &[Token]) -> Result<(Sort, &[Token]), ReadFault>
-    ensures reads { Gives (λ x. x.0) (λ x. x.1.now) result (plain_at tokens.now) }
+    ensures reads { Gives result (plain_at tokens.now) }
     ensures shorter { IfOk result (λ x. length x.1.now < length tokens.now) }
 {
     match after_key(Key::Void, tokens) {
@@ -188,7 +188,7 @@ fn plain(tokens: &[Token]) -> Result<(Sort, &[Token]), ReadFault>
 }
 
 fn opaque_sort(tokens: &[Token]) -> Result<(Sort, &[Token]), ReadFault>
-    ensures reads { Gives (λ x. x.0) (λ x. x.1.now) result (opaque_at tokens.now) }
+    ensures reads { Gives result (opaque_at tokens.now) }
     ensures shorter { IfOk result (λ x. length x.1.now < length tokens.now) }
 {
     match after_opaque(tokens) {
@@ -199,7 +199,7 @@ fn opaque_sort(tokens: &[Token]) -> Result<(Sort, &[Token]), ReadFault>
 
 /// The opaque type that the first token names, and the tokens after it.
 fn after_opaque(tokens: &[Token]) -> Option<(Opaque, &[Token])>
-    ensures finds { FindsFirst (λ x. x.0) (λ x. x.1.now) is_opaque opaque_of tokens.now result }
+    ensures finds { Finds is_opaque opaque_of tokens.now result }
     ensures shorter { IfSome result (λ x. length x.1.now < length tokens.now) }
 {
     match next(tokens) {
@@ -232,7 +232,7 @@ fn constructor<'a>(
     name: Word,
     tokens: &'a [Token],
 ) -> Result<(Member, &'a [Token]), ReadFault>
-    ensures reads { Gives (λ x. x.0) (λ x. x.1.now) result (constructor_at source.entry.text.now name tokens.now) }
+    ensures reads { Gives result (constructor_at source.entry.text.now name tokens.now) }
     ensures shorter { IfOk result (λ x. length x.1.now < length tokens.now) }
 {
     let (params, rest) = params(source, tokens)?;
@@ -260,7 +260,7 @@ fn method<'a>(
     name: Word,
     tokens: &'a [Token],
 ) -> Result<(Member, &'a [Token]), ReadFault>
-    ensures reads { Gives (λ x. x.0) (λ x. x.1.now) result (method_at source.entry.text.now depth sort name tokens.now) }
+    ensures reads { Gives result (method_at source.entry.text.now depth sort name tokens.now) }
     ensures shorter { IfOk result (λ x. length x.1.now < length tokens.now) }
 {
     let (params, rest) = params(source, tokens)?;
@@ -287,7 +287,7 @@ fn params<'a>(
     source: Source<'_>,
     tokens: &'a [Token],
 ) -> Result<(Items<Param>, &'a [Token]), ReadFault>
-    ensures reads { Gives (λ x. x.0) (λ x. x.1.now) result (params_at source.entry.text.now tokens.now) }
+    ensures reads { Gives result (params_at source.entry.text.now tokens.now) }
     ensures shorter { IfOk result (λ x. length x.1.now < length tokens.now) }
 {
     let rest = mark(Mark::Open, tokens)?;
@@ -300,7 +300,7 @@ fn maybe_params<'a>(
     source: Source<'_>,
     tokens: &'a [Token],
 ) -> Result<(Items<Param>, &'a [Token]), ReadFault>
-    ensures reads { Gives (λ x. x.0) (λ x. x.1.now) result (listed_at type_starts (param_at source.entry.text.now) tokens.now) }
+    ensures reads { Gives result (listed_at type_starts (param_at source.entry.text.now) tokens.now) }
     ensures shorter { IfOk result (λ x. length x.1.now ≤ length tokens.now) }
 {
     if begins_param(tokens) {
@@ -324,7 +324,7 @@ fn some_params<'a>(
     source: Source<'_>,
     tokens: &'a [Token],
 ) -> Result<(Items<Param>, &'a [Token]), ReadFault>
-    ensures reads { Gives (λ x. x.0) (λ x. x.1.now) result (commas_at (param_at source.entry.text.now) tokens.now) }
+    ensures reads { Gives result (commas_at (param_at source.entry.text.now) tokens.now) }
     ensures shorter { IfOk result (λ x. length x.1.now < length tokens.now) }
 {
     let mut found = Items::new(source.alloc);
@@ -341,7 +341,7 @@ fn more_params<'a>(
     source: Source<'_>,
     tokens: &'a [Token],
 ) -> Result<(Items<Param>, &'a [Token]), ReadFault>
-    ensures reads { Gives (λ x. x.0) (λ x. x.1.now) result (more_at (param_at source.entry.text.now) tokens.now) }
+    ensures reads { Gives result (more_at (param_at source.entry.text.now) tokens.now) }
     ensures shorter { IfOk result (λ x. length x.1.now ≤ length tokens.now) }
 {
     let mut found = Items::new(source.alloc);
@@ -360,7 +360,7 @@ fn next_param<'a>(
     source: Source<'_>,
     tokens: &'a [Token],
 ) -> Result<(Option<Param>, &'a [Token]), ReadFault>
-    ensures reads { Gives (λ x. x.0) (λ x. x.1.now) result (next_at (param_at source.entry.text.now) tokens.now) }
+    ensures reads { Gives result (next_at (param_at source.entry.text.now) tokens.now) }
     ensures shorter { IfOk result (λ x. length x.1.now ≤ length tokens.now) }
     ensures takes { IfOk result (λ x. IsSome x.0 → length x.1.now < length tokens.now) }
 {
@@ -376,7 +376,7 @@ fn next_param<'a>(
 /// `(opaque | Name) Name`
 #[tactic(auto, unfolding(crate::specs::Reading::param_at))]
 fn param<'a>(source: Source<'_>, tokens: &'a [Token]) -> Result<(Param, &'a [Token]), ReadFault>
-    ensures reads { Gives (λ x. x.0) (λ x. x.1.now) result (param_at source.entry.text.now tokens.now) }
+    ensures reads { Gives result (param_at source.entry.text.now tokens.now) }
     ensures shorter { IfOk result (λ x. length x.1.now < length tokens.now) }
 {
     let (sort, rest) = param_sort(source, tokens)?;
@@ -385,7 +385,7 @@ fn param<'a>(source: Source<'_>, tokens: &'a [Token]) -> Result<(Param, &'a [Tok
 }
 
 fn param_sort<'a>(source: Source<'_>, tokens: &'a [Token]) -> Result<(Sort, &'a [Token]), ReadFault>
-    ensures reads { Gives (λ x. x.0) (λ x. x.1.now) result (type_at source.entry.text.now tokens.now) }
+    ensures reads { Gives result (type_at source.entry.text.now tokens.now) }
     ensures shorter { IfOk result (λ x. length x.1.now < length tokens.now) }
 {
     match after_opaque(tokens) {
@@ -395,7 +395,7 @@ fn param_sort<'a>(source: Source<'_>, tokens: &'a [Token]) -> Result<(Sort, &'a 
 }
 
 fn class_sort<'a>(source: Source<'_>, tokens: &'a [Token]) -> Result<(Sort, &'a [Token]), ReadFault>
-    ensures reads { Gives (λ x. x.0) (λ x. x.1.now) result (class_type_at source.entry.text.now tokens.now) }
+    ensures reads { Gives result (class_type_at source.entry.text.now tokens.now) }
     ensures shorter { IfOk result (λ x. length x.1.now < length tokens.now) }
 {
     let (class, rest) = name(source, tokens)?;

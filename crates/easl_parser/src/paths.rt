@@ -18,7 +18,7 @@ pub(crate) fn path<'a>(
     source: Source<'_>,
     tokens: &'a [Token],
 ) -> Result<(Path, &'a [Token]), ReadFault>
-    ensures reads { Gives (λ x. x.0) (λ x. x.1.now) result (path_at source.entry.text.now tokens.now) }
+    ensures reads { Gives result (path_at source.entry.text.now tokens.now) }
     ensures shorter { IfOk result (λ x. length x.1.now < length tokens.now) }
 {
     match placed_key(Key::This, tokens) {
@@ -28,7 +28,7 @@ pub(crate) fn path<'a>(
 }
 
 fn named_path<'a>(source: Source<'_>, tokens: &'a [Token]) -> Result<(Path, &'a [Token]), ReadFault>
-    ensures reads { Gives (λ x. x.0) (λ x. x.1.now) result (named_path_at source.entry.text.now tokens.now) }
+    ensures reads { Gives result (named_path_at source.entry.text.now tokens.now) }
     ensures shorter { IfOk result (λ x. length x.1.now < length tokens.now) }
 {
     let (head, rest) = name(source, tokens)?;
@@ -43,7 +43,7 @@ pub(crate) fn path_of<'a>(
     place: Place,
     tokens: &'a [Token],
 ) -> Result<(Path, &'a [Token]), ReadFault>
-    ensures reads { Gives (λ x. x.0) (λ x. x.1.now) result (path_of source.entry.text.now head place tokens.now) }
+    ensures reads { Gives result (path_of source.entry.text.now head place tokens.now) }
     ensures shorter { IfOk result (λ x. length x.1.now ≤ length tokens.now) }
 {
     let (fields, rest) = fields(source, tokens)?;
@@ -63,7 +63,7 @@ fn fields<'a>(
     source: Source<'_>,
     tokens: &'a [Token],
 ) -> Result<(Items<Word>, &'a [Token]), ReadFault>
-    ensures reads { Gives (λ x. x.0) (λ x. x.1.now) result (items_at (field_at source.entry.text.now) tokens.now) }
+    ensures reads { Gives result (items_at (field_at source.entry.text.now) tokens.now) }
     ensures shorter { IfOk result (λ x. length x.1.now ≤ length tokens.now) }
 {
     let mut found = Items::new(source.alloc);
@@ -82,7 +82,7 @@ fn maybe_field<'a>(
     source: Source<'_>,
     tokens: &'a [Token],
 ) -> Result<(Option<Word>, &'a [Token]), ReadFault>
-    ensures reads { Gives (λ x. x.0) (λ x. x.1.now) result (field_at source.entry.text.now tokens.now) }
+    ensures reads { Gives result (field_at source.entry.text.now tokens.now) }
     ensures shorter { IfOk result (λ x. length x.1.now ≤ length tokens.now) }
     ensures takes { IfOk result (λ x. IsSome x.0 → length x.1.now < length tokens.now) }
 {
@@ -101,7 +101,7 @@ pub(crate) fn value<'a>(
     source: Source<'_>,
     tokens: &'a [Token],
 ) -> Result<(Value, &'a [Token]), ReadFault>
-    ensures reads { Gives (λ x. x.0) (λ x. x.1.now) result (value_at source.entry.text.now tokens.now) }
+    ensures reads { Gives result (value_at source.entry.text.now tokens.now) }
     ensures shorter { IfOk result (λ x. length x.1.now < length tokens.now) }
 {
     match placed_key(Key::New, tokens) {
@@ -116,7 +116,7 @@ fn new_value<'a>(
     place: Place,
     tokens: &'a [Token],
 ) -> Result<(Value, &'a [Token]), ReadFault>
-    ensures reads { Gives (λ x. x.0) (λ x. x.1.now) result (new_behind source.entry.text.now place tokens.now) }
+    ensures reads { Gives result (new_behind source.entry.text.now place tokens.now) }
     ensures shorter { IfOk result (λ x. length x.1.now < length tokens.now) }
 {
     let (class, rest) = name(source, tokens)?;
@@ -128,7 +128,7 @@ fn path_value<'a>(
     source: Source<'_>,
     tokens: &'a [Token],
 ) -> Result<(Value, &'a [Token]), ReadFault>
-    ensures reads { Gives (λ x. x.0) (λ x. x.1.now) result (path_value_at source.entry.text.now tokens.now) }
+    ensures reads { Gives result (path_value_at source.entry.text.now tokens.now) }
     ensures shorter { IfOk result (λ x. length x.1.now < length tokens.now) }
 {
     let (path, rest) = path(source, tokens)?;
@@ -138,7 +138,7 @@ fn path_value<'a>(
 /// `"(" args? ")"`
 #[tactic(auto, unfolding(crate::specs::Reading::args_at))]
 fn args<'a>(source: Source<'_>, tokens: &'a [Token]) -> Result<(Items<Arg>, &'a [Token]), ReadFault>
-    ensures reads { Gives (λ x. x.0) (λ x. x.1.now) result (args_at source.entry.text.now tokens.now) }
+    ensures reads { Gives result (args_at source.entry.text.now tokens.now) }
     ensures shorter { IfOk result (λ x. length x.1.now < length tokens.now) }
 {
     let rest = mark(Mark::Open, tokens)?;
@@ -151,7 +151,7 @@ fn maybe_args<'a>(
     source: Source<'_>,
     tokens: &'a [Token],
 ) -> Result<(Items<Arg>, &'a [Token]), ReadFault>
-    ensures reads { Gives (λ x. x.0) (λ x. x.1.now) result (listed_at arg_starts (arg_at source.entry.text.now) tokens.now) }
+    ensures reads { Gives result (listed_at arg_starts (arg_at source.entry.text.now) tokens.now) }
     ensures shorter { IfOk result (λ x. length x.1.now ≤ length tokens.now) }
 {
     if begins_arg(tokens) {
@@ -182,7 +182,7 @@ fn some_args<'a>(
     source: Source<'_>,
     tokens: &'a [Token],
 ) -> Result<(Items<Arg>, &'a [Token]), ReadFault>
-    ensures reads { Gives (λ x. x.0) (λ x. x.1.now) result (commas_at (arg_at source.entry.text.now) tokens.now) }
+    ensures reads { Gives result (commas_at (arg_at source.entry.text.now) tokens.now) }
     ensures shorter { IfOk result (λ x. length x.1.now < length tokens.now) }
 {
     let mut found = Items::new(source.alloc);
@@ -199,7 +199,7 @@ fn more_args<'a>(
     source: Source<'_>,
     tokens: &'a [Token],
 ) -> Result<(Items<Arg>, &'a [Token]), ReadFault>
-    ensures reads { Gives (λ x. x.0) (λ x. x.1.now) result (more_at (arg_at source.entry.text.now) tokens.now) }
+    ensures reads { Gives result (more_at (arg_at source.entry.text.now) tokens.now) }
     ensures shorter { IfOk result (λ x. length x.1.now ≤ length tokens.now) }
 {
     let mut found = Items::new(source.alloc);
@@ -218,7 +218,7 @@ fn next_arg<'a>(
     source: Source<'_>,
     tokens: &'a [Token],
 ) -> Result<(Option<Arg>, &'a [Token]), ReadFault>
-    ensures reads { Gives (λ x. x.0) (λ x. x.1.now) result (next_at (arg_at source.entry.text.now) tokens.now) }
+    ensures reads { Gives result (next_at (arg_at source.entry.text.now) tokens.now) }
     ensures shorter { IfOk result (λ x. length x.1.now ≤ length tokens.now) }
     ensures takes { IfOk result (λ x. IsSome x.0 → length x.1.now < length tokens.now) }
 {
@@ -234,7 +234,7 @@ fn next_arg<'a>(
 /// `path | literal`
 #[tactic(auto, unfolding(crate::specs::Reading::arg_at))]
 fn arg<'a>(source: Source<'_>, tokens: &'a [Token]) -> Result<(Arg, &'a [Token]), ReadFault>
-    ensures reads { Gives (λ x. x.0) (λ x. x.1.now) result (arg_at source.entry.text.now tokens.now) }
+    ensures reads { Gives result (arg_at source.entry.text.now tokens.now) }
     ensures shorter { IfOk result (λ x. length x.1.now < length tokens.now) }
 {
     if begins_literal(tokens) {
@@ -245,7 +245,7 @@ fn arg<'a>(source: Source<'_>, tokens: &'a [Token]) -> Result<(Arg, &'a [Token])
 }
 
 fn literal_arg<'a>(source: Source<'_>, tokens: &'a [Token]) -> Result<(Arg, &'a [Token]), ReadFault>
-    ensures reads { Gives (λ x. x.0) (λ x. x.1.now) result (literal_arg_at source.entry.text.now tokens.now) }
+    ensures reads { Gives result (literal_arg_at source.entry.text.now tokens.now) }
     ensures shorter { IfOk result (λ x. length x.1.now < length tokens.now) }
 {
     let (word, rest) = literal(source, tokens)?;
@@ -253,7 +253,7 @@ fn literal_arg<'a>(source: Source<'_>, tokens: &'a [Token]) -> Result<(Arg, &'a 
 }
 
 fn path_arg<'a>(source: Source<'_>, tokens: &'a [Token]) -> Result<(Arg, &'a [Token]), ReadFault>
-    ensures reads { Gives (λ x. x.0) (λ x. x.1.now) result (path_arg_at source.entry.text.now tokens.now) }
+    ensures reads { Gives result (path_arg_at source.entry.text.now tokens.now) }
     ensures shorter { IfOk result (λ x. length x.1.now < length tokens.now) }
 {
     let (path, rest) = path(source, tokens)?;

@@ -1,10 +1,9 @@
 //! A whole specification: its tokens, its brackets, its syntax.
 ghost use Rattle.std.specs.Prelude.{◌≡◌, ◌<◌, ◌≤◌, length, IfOk, IsSome};
-ghost use Rattle.easl_model.specs.declared.token.Key.TheVariants as key;
-ghost use Rattle.cv_read.specs.Read.{Gives, GivesWhole, is_key, step_at, whole_at};
+ghost use Rattle.cv_read.specs.Read.{Gives, GivesWhole, whole_at};
 ghost use Rattle.easl_model.specs.Spelling.{OneTree};
-ghost use Rattle.easl_parser.specs.Answers.{Answers, OneAnswer, Finds};
-ghost use Rattle.easl_parser.specs.Reading.{class_at, classes_at, spec_at};
+ghost use Rattle.easl_parser.specs.Answers.{Answers, OneAnswer, FindsSpec};
+ghost use Rattle.easl_parser.specs.Reading.{maybe_class_at, classes_at, spec_at};
 
 use crate::members::class;
 use cv_lex::{TextFault, tokens};
@@ -21,7 +20,7 @@ const MOST_CONDITIONS: u32 = 63;
 /// Reads the specification that the whole text spells. The faults come in this order: `NotBuilt` where the bytes
 /// are no tokens of the form that is built so far, `Limit` of nesting at the bracket that makes a 65th open one,
 /// `Syntax` where the tokens before the place begin a specification and with the next one begin none, or at the
-/// end of the text.
+/// end of the text. `Memory` comes where none is found.
 #[tactic(auto, using(crate::proofs::Theorems::no_tokens, crate::proofs::Theorems::no_text, crate::proofs::Theorems::tree_answers, crate::proofs::Theorems::fault_answers))]
 pub fn read_spec(alloc: Global, text: &[u8]) -> Result<Spec, TextFault>
     requires { length text.now ≤ 65536 }
@@ -53,7 +52,7 @@ pub fn one_answer()
 /// The specification that all of these tokens spell.
 #[tactic(auto, using(crate::proofs::Theorems::found, crate::proofs::Theorems::too_deep))]
 fn spec(source: Source<'_>, end: Place, tokens: &[Token]) -> Result<Spec, ReadFault>
-    ensures { Finds source.entry.text.now end tokens.now result }
+    ensures { FindsSpec source.entry.text.now end tokens.now result }
 {
     nesting(tokens)?;
     whole(source, end, tokens)
@@ -78,7 +77,7 @@ fn classes<'a>(
     end: Place,
     tokens: &'a [Token],
 ) -> Result<(Spec, &'a [Token]), ReadFault>
-    ensures { Gives (λ x. x.0) (λ x. x.1.now) result (spec_at source.entry.text.now MOST_CONDITIONS end tokens.now) }
+    ensures { Gives result (spec_at source.entry.text.now MOST_CONDITIONS end tokens.now) }
 {
     let mut classes = Items::new(source.alloc);
     let (first, rest) = class(source, MOST_CONDITIONS, tokens)?;
@@ -94,7 +93,7 @@ fn more_classes<'a>(
     source: Source<'_>,
     tokens: &'a [Token],
 ) -> Result<(Items<Class>, &'a [Token]), ReadFault>
-    ensures reads { Gives (λ x. x.0) (λ x. x.1.now) result (classes_at source.entry.text.now MOST_CONDITIONS tokens.now) }
+    ensures reads { Gives result (classes_at source.entry.text.now MOST_CONDITIONS tokens.now) }
     ensures shorter { IfOk result (λ x. length x.1.now ≤ length tokens.now) }
 {
     let mut found = Items::new(source.alloc);
@@ -113,7 +112,7 @@ fn maybe_class<'a>(
     source: Source<'_>,
     tokens: &'a [Token],
 ) -> Result<(Option<Class>, &'a [Token]), ReadFault>
-    ensures reads { Gives (λ x. x.0) (λ x. x.1.now) result (step_at (is_key key.Class) (class_at source.entry.text.now MOST_CONDITIONS) tokens.now) }
+    ensures reads { Gives result (maybe_class_at source.entry.text.now MOST_CONDITIONS tokens.now) }
     ensures shorter { IfOk result (λ x. length x.1.now ≤ length tokens.now) }
     ensures takes { IfOk result (λ x. IsSome x.0 → length x.1.now < length tokens.now) }
 {

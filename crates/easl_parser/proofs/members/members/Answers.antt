@@ -1,11 +1,11 @@
 use Rattle.std.proofs.Common.{refl, ap, ◌∙◌}
-use Rattle.cv_read.specs.Read.{Got, step_at}
+use Rattle.cv_read.specs.Read.{Got}
 use Rattle.cv_read.proofs.Along.{goes_on}
-use Rattle.easl_parser.specs.Reading.{member_starts, member_at}
+use Rattle.easl_parser.specs.Reading.{maybe_member_at}
 use Rattle.easl_parser.proofs.members.members.Goals as goal
 
 pub each-preserved : goal.each-preserved
 each-preserved c =
-    goes_on (step_at member_starts (member_at c.args.source.text.now c.args.depth)) _ _ _ _ _ c.in-Some.item c.each.invariant
+    goes_on (maybe_member_at c.args.source.text.now c.args.depth) _ _ _ _ _ c.in-Some.item c.each.invariant
     (c.in_ok-item.ensures.reads ∙ ap (λ f. Got f c.in_ok-item.more.now) c.in-Some.is)
     (c.in_ok-item.ensures.takes (rw c.in-Some.is refl)) c.in_ok-push-in-Some.ensures.ok

@@ -1,13 +1,11 @@
 use Rattle.std.proofs.Common.{length}
-use Rattle.easl_model.specs.declared.token.Key.TheVariants as key
-use Rattle.cv_read.specs.Read.{is_key, step_at}
 use Rattle.cv_read.proofs.Along.{IsAlong}
-use Rattle.easl_parser.specs.Reading.{class_at}
+use Rattle.easl_parser.specs.Reading.{maybe_class_at}
 use Rattle.easl_parser.specs.declared.whole.TheConstants.{MOST_CONDITIONS}
 use Rattle.easl_parser.proofs.whole.more_classes.Given as goal
 
 abbrev pub invariant-each : goal.invariant-each
-invariant-each l = IsAlong (step_at (is_key key.Class) (class_at l.source.text.now MOST_CONDITIONS)) l.fn.tokens l.rest l.found
+invariant-each l = IsAlong (maybe_class_at l.source.text.now MOST_CONDITIONS) l.fn.tokens l.rest l.found
 
 abbrev pub decreases-each : goal.decreases-each
 decreases-each l = length l.rest
