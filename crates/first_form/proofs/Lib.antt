@@ -1,5 +1,11 @@
+pub mod ActLemmas
+pub mod BodyLemmas
 pub mod Counts
+pub mod FieldLemmas
+pub mod FormLemmas
 pub mod ListLemmas
+pub mod MethodLemmas
 pub mod NamesLemmas
 pub mod PartsLemmas
+pub mod PathLemmas
 pub mod ShapeLemmas

@@ -1,19 +1,52 @@
--- Names are alike where their texts are.
-use Rattle.std.proofs.Common.{◌≡◌, ℕ, Bool, List, sym, ◌∙◌, ap}
-use Rattle.std.specs.Prelude.{IsUtf8, IsTrue, ◌↔◌}
-use Rattle.std.specs.Str.{chars}
+-- Names and what they stand for.
+use Rattle.std.proofs.Common.{◌≡◌, ℕ, suc, ◌+◌, ◌<◌, List, [], ◌∷◌, drop, length, get_or, arith, refl, ap, sym, ◌∙◌}
+use Rattle.std.proofs.lemmas.Bool.{eq-eqb}
+use Rattle.std.proofs.lemmas.List.{drop_more}
 use Rattle.std.specs.Cmp.Lexicographic.{pointwise}
-use Rattle.std.specs.Prelude.{nat_eq}
 use Rattle.std.proofs.Math.Utf8.{encodes}
 use Rattle.std.proofs.lemmas.Str.{encodes-chars}
-use Rattle.std.proofs.lemmas.Slice.Eq.{bytes_eq-Decides}
+use Rattle.std.specs.Prelude.{true, nat_eq, Some, slice_get, IsUtf8, chars}
+use Rattle.easl_model.specs.Names.{fields_in}
+use Rattle.easl_model.specs.declared.tree.Field as tree
+use Rattle.easl_model.specs.declared.tree.Member.{Member}
+use Rattle.easl_model.specs.declared.tree.Member.TheVariants.{Field, Constructor, Method}
 
--- texts of the same characters have the same bytes
-same_bytes : (a b : List ℕ) → IsUtf8 a → IsUtf8 b → chars a ≡ chars b → a ≡ b
-same_bytes a b ua ub e = sym (encodes-chars a ua) ∙ ap encodes e ∙ encodes-chars b ub
+-- so many fields stand among so many members
+pub record ArePassed (members : List Member) (count fields : ℕ) : Type 0 where
+  pub rest : (k : ℕ) → slice_get (fields_in (drop count members)) k ≡ slice_get (fields_in members) (fields + k)
 
--- two texts, the characters of each, and what the comparison of their bytes answers
-pub same_text : (a b left right : List ℕ) (answer : Bool) → answer ≡ pointwise nat_eq a b → IsUtf8 a → IsUtf8 b → chars a ≡ left → chars b ≡ right → IsTrue answer ↔ (left ≡ right)
-same_text a b left right answer e ua ub el er =
-    let decides = bytes_eq-Decides a b in
-    (λ t. sym el ∙ ap chars (decides.0 (sym e ∙ t)) ∙ er, λ h. e ∙ decides.1 (same_bytes a b ua ub (el ∙ h ∙ sym er)))
+next_is : (members : List Member) (count : ℕ) (m : Member) → count < length members → m ≡ get_or members count m → drop count members ≡ m ∷ drop (count + 1) members
+next_is members count m within is = drop_more members count m within ∙ ap (λ x. x ∷ drop (count + 1) members) (sym is)
+
+pub field_here : (members : List Member) (count fields : ℕ) (m : Member) (f : tree.Field) → ArePassed members count fields → count < length members → m ≡ get_or members count m → m ≡ Field f → slice_get (fields_in members) fields ≡ Some f
+field_here members count fields m f passed within is is_field =
+    let next : drop count members ≡ Field f ∷ drop (count + 1) members = next_is members count m within is ∙ ap (λ x. x ∷ drop (count + 1) members) is_field in
+    let e : fields + 0 ≡ fields = omega arith in
+    ap (slice_get (fields_in members)) (sym e) ∙ sym (passed.rest 0) ∙ ap (λ ms. slice_get (fields_in ms) 0) next
+
+pub field_passed : (members : List Member) (count fields : ℕ) (m : Member) (f : tree.Field) → ArePassed members count fields → count < length members → m ≡ get_or members count m → m ≡ Field f → ArePassed members (count + 1) (fields + 1)
+field_passed members count fields m f passed within is is_field = record {
+  rest = λ k.
+      let next : drop count members ≡ Field f ∷ drop (count + 1) members = next_is members count m within is ∙ ap (λ x. x ∷ drop (count + 1) members) is_field in
+      let e : fields + suc k ≡ fields + 1 + k = omega arith in
+      sym (ap (λ ms. slice_get (fields_in ms) (suc k)) next) ∙ passed.rest (suc k) ∙ ap (slice_get (fields_in members)) e;
+}
+
+-- a member that is no field adds none
+pub other_passed : (members : List Member) (count fields : ℕ) (m : Member) → ArePassed members count fields → count < length members → m ≡ get_or members count m → ((f : tree.Field) → m ≡ Field f → ⊥) → ArePassed members (count + 1) fields
+other_passed members count fields (Field f) passed within is no_field = absurd (no_field f refl)
+other_passed members count fields (Constructor code) passed within is no_field = record {
+  rest = λ k. sym (ap (λ ms. slice_get (fields_in ms) k) (next_is members count (Constructor code) within is)) ∙ passed.rest k;
+}
+other_passed members count fields (Method code) passed within is no_field = record {
+  rest = λ k. sym (ap (λ ms. slice_get (fields_in ms) k) (next_is members count (Method code) within is)) ∙ passed.rest k;
+}
+
+-- texts of the same characters are the same
+pub same_text : (left right : List ℕ) → IsUtf8 left → IsUtf8 right → chars left ≡ chars right → left ≡ right
+same_text left right left_text right_text same =
+    sym (encodes-chars left left_text) ∙ ap encodes same ∙ encodes-chars right right_text
+
+pub same_bytes : (bytes : List ℕ) → pointwise nat_eq bytes bytes ≡ true
+same_bytes [] = refl
+same_bytes (b ∷ bytes) = rw (eq-eqb b b refl) (same_bytes bytes)

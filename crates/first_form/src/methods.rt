@@ -1,10 +1,13 @@
 //! The methods of a class, with numbers for their names.
-ghost use Rattle.std.specs.Prelude.{◌≡◌, List, ◌+◌, ◌<◌, ◌≤◌, ◌∷◌, ◌++◌, [], length, All, IfOk, IfSome, IsTrue, OnOk, Some, slice_get};
+ghost use Rattle.std.specs.Prelude.{◌≡◌, ◌≢◌, List, ◌+◌, ◌<◌, ◌≤◌, ◌∷◌, ◌++◌, [], length, All, IfOk, IfSome, IsTrue, map, OnOk, None, Some, slice_get};
 ghost use Rattle.easl_model.specs.Form.{ActInRange, SourceInRange};
+ghost use Rattle.std.specs.List.{AllZip};
+ghost use Rattle.easl_model.specs.Bodies.{constructor_body, method_body};
+ghost use Rattle.easl_model.specs.FormOf.{IsMethodOf, IsTestOf};
 ghost use Rattle.easl_model.specs.Limits.{ActHasFewArguments, HasFewArguments};
-ghost use Rattle.easl_model.specs.Names.{members_of as members_in, constructor_in};
+ghost use Rattle.easl_model.specs.Names.{IsField, IsSort, members_of as members_in, constructor_in, methods_in};
 ghost use Rattle.easl_model.specs.declared.form.Method as form;
-ghost use Rattle.first_form.specs.Parts.{ActIsPlain, CodeIsShort, IsGrown, IsPlain, IsShort, MakesPlain, MemberIsShort, MethodFits};
+ghost use Rattle.first_form.specs.Parts.{ActIsPlain, ReturnsFirst, CodeIsShort, IsPlainName, IsAssignment, scope_of, IsGrown, IsPlain, IsShort, MakesPlain, MemberIsShort, MethodFits};
 
 use crate::form_fault::FormFault;
 use crate::names::{constructor_of, copied, field_of, is_same, param_of, sort_class};
@@ -19,7 +22,7 @@ use std::alloc::Global;
 const MOST_METHODS: usize = 64;
 
 /// Appends the constructor of the class, which has the number, and its methods.
-pub(crate) fn methods_of(
+pub fn methods_of(
     alloc: Global,
     spec: &Spec,
     number: u32,
@@ -30,7 +33,7 @@ pub(crate) fn methods_of(
     requires class { slice_get spec.now.classes number ≡ Some class.now }
     requires before { All (MethodFits spec.now) methods.old.items }
     ensures fits { OnOk result (All (MethodFits spec.now) methods.new.items) }
-    ensures grown { OnOk result (IsGrown spec.now number methods.old.items methods.new.items) }
+    ensures grown { OnOk result (IsGrown spec.now number class.now class.now.members methods.old.items methods.new.items) }
     ensures few { OnOk result (length methods.new.items ≤ length methods.old.items + 65) }
 {
     let constructor = constructor_form(alloc, spec, number, class)?;
@@ -64,7 +67,8 @@ fn add_member(
     requires before { All (MethodFits spec.now) methods.old.items }
     requires room { length methods.old.items ≤ most }
     ensures fits { OnOk result (All (MethodFits spec.now) methods.new.items) }
-    ensures more { OnOk result ((more : List form.Method) × (methods.new.items ≡ methods.old.items ++ more)) }
+    ensures more { OnOk result ((more : List form.Method) × (methods.new.items ≡ methods.old.items ++ more)
+        × AllZip (IsMethodOf spec.now) (map (method_body number) (methods_in (member.now ∷ []))) more) }
     ensures few { OnOk result (length methods.new.items ≤ most) }
 {
     let Member::Method(code) = member else {
@@ -79,6 +83,7 @@ fn add_member(
 }
 
 /// The class's constructor.
+#[tactic(auto, using(crate::proofs::BodyLemmas::members_there))]
 fn constructor_form(
     alloc: Global,
     spec: &Spec,
@@ -87,8 +92,10 @@ fn constructor_form(
 ) -> Result<Method, FormFault>
     requires short { IsShort spec.now }
     requires number { number < length spec.now.classes }
+    requires class { slice_get spec.now.classes number ≡ Some class.now }
     ensures fits { IfOk result (MethodFits spec.now) }
     ensures makes { IfOk result (MakesPlain spec.now number) }
+    ensures method { IfOk result (IsMethodOf spec.now (constructor_body number class.now)) }
 {
     match constructor_of(spec, number) {
         Some(code) => constructor(alloc, spec, number, class, code),
@@ -103,9 +110,11 @@ fn implicit_constructor(
     number: u32,
     class: &Class,
 ) -> Result<Method, FormFault>
-    requires { number < length spec.now.classes }
+    requires number { number < length spec.now.classes }
+    requires none { constructor_in class.now.members ≡ None }
     ensures fits { IfOk result (MethodFits spec.now) }
     ensures makes { IfOk result (MakesPlain spec.now number) }
+    ensures method { IfOk result (IsMethodOf spec.now (constructor_body number class.now)) }
 {
     Ok(Method {
         class: number,
@@ -132,17 +141,20 @@ fn constructor(
     requires number { number < length spec.now.classes }
     requires code { CodeIsShort code.now }
     requires written { constructor_in (members_in spec.now number) ≡ Some code.now }
+    requires class { constructor_in class.now.members ≡ Some code.now }
     ensures fits { IfOk result (MethodFits spec.now) }
     ensures makes { IfOk result (MakesPlain spec.now number) }
+    ensures method { IfOk result (IsMethodOf spec.now (constructor_body number class.now)) }
 {
     let scope = Scope {
         spec,
         class: number,
         params: code.params.as_slice(),
     };
-    if !is_same(&code.name.name, &class.name.name)
-        || !sets_each_field_once(class, code.body.as_slice())
-    {
+    if !is_same(&code.name.name, &class.name.name) {
+        return Err(FormFault::NotBuilt);
+    }
+    if !code.clauses.is_empty() || !sets_each_field_once(class, code.body.as_slice()) {
         return Err(FormFault::NotBuilt);
     }
     Ok(Method {
@@ -186,7 +198,9 @@ fn set_name(step: &Step) -> Option<&Name> {
     }
 }
 
-fn plain_name(path: &Path) -> Option<&Name> {
+fn plain_name(path: &Path) -> Option<&Name>
+    ensures { IfSome result (λ name. IsPlainName path.now name.now) }
+{
     match &path.head {
         Some(word) if path.fields.is_empty() => Some(&word.name),
         _ => None,
@@ -199,6 +213,8 @@ fn fields_set(alloc: Global, scope: Scope<'_>, steps: &[Step]) -> Result<Items<A
     ensures count { IfOk result (λ acts. length acts ≡ length steps.now) }
     ensures in_range { IfOk result (All (ActInRange (length scope.entry.spec.now.classes))) }
     ensures few { IfOk result (All ActHasFewArguments) }
+    ensures each { IfOk result (AllZip (IsAssignment scope.entry.spec.now
+        (scope_of scope.entry.class scope.entry.params.now)) steps.now) }
     ensures plain { IfOk result (All (ActIsPlain scope.entry.spec.now)) }
 {
     let mut acts = Items::new(alloc);
@@ -214,8 +230,13 @@ fn field_set(alloc: Global, scope: Scope<'_>, step: &Step) -> Result<Act, FormFa
     ensures in_range { IfOk result (ActInRange (length scope.entry.spec.now.classes)) }
     ensures few { IfOk result ActHasFewArguments }
     ensures plain { IfOk result (ActIsPlain scope.entry.spec.now) }
+    ensures act { IfOk result (IsAssignment scope.entry.spec.now
+        (scope_of scope.entry.class scope.entry.params.now) step.now) }
 {
-    let (Step::Assign(_, value), Some(name)) = (step, set_name(step)) else {
+    let Step::Assign(path, value) = step else {
+        return Err(FormFault::NotBuilt);
+    };
+    let Some(name) = plain_name(path) else {
         return Err(FormFault::NotBuilt);
     };
     let Some((position, wanted)) = own_field(scope, name) else {
@@ -233,7 +254,10 @@ fn field_set(alloc: Global, scope: Scope<'_>, step: &Step) -> Result<Act, FormFa
 }
 
 /// The position and the class of the field that a plain name names, where no parameter has the name.
-fn own_field(scope: Scope<'_>, name: &Name) -> Option<(u32, u32)> {
+fn own_field(scope: Scope<'_>, name: &Name) -> Option<(u32, u32)>
+    ensures none { IfSome result (λ x. All (λ p. p.name.name ≢ name.now) scope.entry.params.now) }
+    ensures field { IfSome result (λ x. IsField scope.entry.spec.now scope.entry.class name.now x.0 x.1) }
+{
     if param_of(scope.params, name).is_some() {
         return None;
     }
@@ -255,7 +279,8 @@ fn method(alloc: Global, spec: &Spec, number: u32, code: &Code) -> Result<Method
     requires short { IsShort spec.now }
     requires number { number < length spec.now.classes }
     requires code { CodeIsShort code.now }
-    ensures { IfOk result (MethodFits spec.now) }
+    ensures fits { IfOk result (MethodFits spec.now) }
+    ensures method { IfOk result (IsMethodOf spec.now (method_body number code.now)) }
 {
     let scope = Scope {
         spec,
@@ -280,6 +305,7 @@ fn method(alloc: Global, spec: &Spec, number: u32, code: &Code) -> Result<Method
 
 /// The classes of the parameters.
 fn param_classes(alloc: Global, scope: Scope<'_>) -> Result<Items<Option<u32>>, FormFault>
+    ensures each { IfOk result (AllZip (λ p sort. IsSort scope.entry.spec.now p.sort sort) scope.entry.params.now) }
     ensures count { IfOk result (λ found. length found ≡ length scope.entry.params.now) }
     ensures in_range { IfOk result (All (λ p. IfSome p (λ n. n < length scope.entry.spec.now.classes))) }
 {
@@ -294,7 +320,7 @@ fn param_classes(alloc: Global, scope: Scope<'_>) -> Result<Items<Option<u32>>, 
 }
 
 fn param_names(alloc: Global, params: &[Param]) -> Result<Items<Name>, FormFault>
-    ensures { IfOk result (λ found. length found ≡ length params.now) }
+    ensures { IfOk result (λ found. found ≡ map (λ p. p.name.name) params.now) }
 {
     let mut found = Items::new(alloc);
     'each: for param in params {
@@ -304,7 +330,9 @@ fn param_names(alloc: Global, params: &[Param]) -> Result<Items<Name>, FormFault
 }
 
 fn clauses(alloc: Global, scope: Scope<'_>, conds: &[Cond]) -> Result<Items<Test>, FormFault>
-    ensures { IfOk result (λ tests. length tests ≡ length conds.now) }
+    ensures count { IfOk result (λ tests. length tests ≡ length conds.now) }
+    ensures each { IfOk result (AllZip (IsTestOf scope.entry.spec.now
+        (scope_of scope.entry.class scope.entry.params.now)) conds.now) }
 {
     let mut tests = Items::new(alloc);
     'each: for cond in conds {
@@ -314,7 +342,10 @@ fn clauses(alloc: Global, scope: Scope<'_>, conds: &[Cond]) -> Result<Items<Test
 }
 
 /// A clause: two paths of one class are compared.
-fn clause(alloc: Global, scope: Scope<'_>, cond: &Cond) -> Result<Test, FormFault> {
+fn clause(alloc: Global, scope: Scope<'_>, cond: &Cond) -> Result<Test, FormFault>
+    ensures { IfOk result (IsTestOf scope.entry.spec.now
+        (scope_of scope.entry.class scope.entry.params.now) cond.now) }
+{
     let Cond::Same(left, right) = cond else {
         return Err(FormFault::NotBuilt);
     };
@@ -333,6 +364,8 @@ fn assignments(alloc: Global, scope: Scope<'_>, steps: &[Step]) -> Result<Items<
     ensures count { IfOk result (λ acts. length acts ≡ length steps.now) }
     ensures in_range { IfOk result (All (ActInRange (length scope.entry.spec.now.classes))) }
     ensures few { IfOk result (All ActHasFewArguments) }
+    ensures each { IfOk result (AllZip (IsAssignment scope.entry.spec.now
+        (scope_of scope.entry.class scope.entry.params.now)) steps.now) }
 {
     let mut acts = Items::new(alloc);
     'each: for step in steps {
@@ -346,6 +379,8 @@ fn assignment(alloc: Global, scope: Scope<'_>, step: &Step) -> Result<Act, FormF
     requires { IsShort scope.spec.now }
     ensures in_range { IfOk result (ActInRange (length scope.entry.spec.now.classes)) }
     ensures few { IfOk result ActHasFewArguments }
+    ensures act { IfOk result (IsAssignment scope.entry.spec.now
+        (scope_of scope.entry.class scope.entry.params.now) step.now) }
 {
     let Step::Assign(path, value) = step else {
         return Err(FormFault::NotBuilt);
@@ -373,6 +408,8 @@ fn returned(
     requires { IsShort scope.spec.now }
     ensures in_range { IfOk result (λ v. IfSome v (SourceInRange (length scope.entry.spec.now.classes))) }
     ensures few { IfOk result (λ v. IfSome v HasFewArguments) }
+    ensures returns { IfOk result (λ v. ReturnsFirst scope.entry.spec.now
+        (scope_of scope.entry.class scope.entry.params.now) value.now v result_class) }
 {
     match (value, result_class) {
         (None, None) => Ok(None),

@@ -15,7 +15,7 @@ const MOST_STATEMENTS: usize = 16;
 const MOST_NAMES: usize = 6;
 
 /// Whether no clause begins with a bracket, of which the tree keeps no trace.
-pub(crate) fn has_plain_clauses(tokens: &[Token]) -> bool {
+pub fn has_plain_clauses(tokens: &[Token]) -> bool {
     tokens.windows(2).all(|pair| match pair {
         [first, second] => {
             first.kind != Kind::Key(Key::Requires) || second.kind != Kind::Mark(Mark::Open)
@@ -24,7 +24,7 @@ pub(crate) fn has_plain_clauses(tokens: &[Token]) -> bool {
     })
 }
 
-pub(crate) fn is_shaped(spec: &Spec) -> bool
+pub fn is_shaped(spec: &Spec) -> bool
     ensures { IsTrue result → IsShort spec.now }
 {
     'each: for class in spec.classes.as_slice() {

@@ -1,6 +1,8 @@
 //! Reads and checks a specification of the form that is built so far.
 ghost use Rattle.std.specs.Prelude.{◌≡◌, ◌≤◌, length, IfOk};
-ghost use Rattle.first_form.specs.Parts.{FieldsInRange, IsShort};
+ghost use Rattle.easl_model.specs.FormOf.{IsFormOf};
+ghost use Rattle.easl_model.specs.declared.tree.Spec as declared;
+ghost use Rattle.first_form.specs.Parts.{FieldsInRange, HasFields, IsShort};
 
 use crate::form_fault::FormFault;
 use crate::methods::methods_of;
@@ -19,6 +21,7 @@ const MOST_FIELDS: usize = 16;
 /// Reads and checks the specification that the text spells. `NotBuilt` comes where the text is not of the form.
 pub fn specification(alloc: Global, text: &[u8]) -> Result<CheckedSpec, FormFault>
     requires { length text.now ≤ 65536 }
+    ensures { IfOk result (λ form. (tree : declared.Spec) × IsFormOf tree form) }
 {
     let spec = read_spec(alloc, text)?;
     let tokens = tokens(alloc, text)?;
@@ -73,6 +76,7 @@ fn params_are_distinct(member: &Member) -> bool {
 fn checked(alloc: Global, spec: &Spec) -> Result<CheckedSpec, FormFault>
     requires few { length spec.now.classes ≤ 64 }
     requires short { IsShort spec.now }
+    ensures { IfOk result (IsFormOf spec.now) }
 {
     let mut forms = Vec::new(alloc);
     let mut methods = Vec::new(alloc);
@@ -94,6 +98,7 @@ fn class_form(
 ) -> Result<ClassForm, FormFault>
     ensures fields { IfOk result (FieldsInRange (length spec.now.classes)) }
     ensures made { IfOk result (λ c. c.constructor ≡ constructor) }
+    ensures written { IfOk result (HasFields spec.now class.now) }
 {
     let mut field_names = Items::new(alloc);
     let mut field_classes = Items::new(alloc);

@@ -1,5 +1,5 @@
-use Rattle.std.proofs.Common.{◌≡◌, length}
+use Rattle.std.proofs.Common.{◌≡◌, map, take}
 use Rattle.first_form.proofs.methods.param_names.Given as goal
 
 abbrev pub invariant-each : goal.invariant-each
-invariant-each l = length l.found ≡ l.param-index
+invariant-each l = l.found ≡ map (λ p. p.name.name) (take l.param-index l.params)

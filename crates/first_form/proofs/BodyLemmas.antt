@@ -1,0 +1,169 @@
+-- Bodies in which no local is declared: each name stands for the same at every statement.
+use Rattle.std.proofs.Common.{◌≡◌, ◌≢◌, ℕ, zero, suc, List, [], ◌∷◌, ◌++◌, All, take, length, refl, ap, sym, ◌∙◌, subst}
+use Rattle.std.specs.Prelude.{false, true, map, Option, Some, None, slice_get}
+use Rattle.std.specs.List.{AllZip}
+use Rattle.easl_model.specs.Bodies.{Body, constructor_body, constructor_or_implicit, implicit_constructor, method_body}
+use Rattle.easl_model.specs.FormOf.{IsMethodOf, IsTestOf, AreActsOf, IsActOf, IsArgumentOf, IsReturnOf, IsSourceOf}
+use Rattle.easl_model.specs.Names.{IsSort, constructor_in, members_of}
+use Rattle.easl_model.specs.Scopes.{Scope, scope_at, locals_in, variables, Begins, IsNoVariable, IsOpaque, IsVariable, Reaches}
+use Rattle.easl_model.specs.Scopes as scopes
+use Rattle.easl_model.specs.declared.form.Act.{Act}
+use Rattle.easl_model.specs.declared.form.Act.TheVariants as act
+use Rattle.easl_model.specs.declared.form.Method.{Method}
+use Rattle.easl_model.specs.declared.form.Reach.{Reach}
+use Rattle.easl_model.specs.declared.form.Source.{Source}
+use Rattle.easl_model.specs.declared.form.Source.TheVariants as source
+use Rattle.easl_model.specs.declared.tree.Arg.{Arg}
+use Rattle.easl_model.specs.declared.tree.Arg.TheVariants as arg
+use Rattle.easl_model.specs.declared.tree.Class.{Class}
+use Rattle.easl_model.specs.declared.tree.Code.{Code}
+use Rattle.easl_model.specs.declared.tree.Param.{Param}
+use Rattle.easl_model.specs.declared.tree.Path.{Path}
+use Rattle.easl_model.specs.declared.tree.Spec.{Spec}
+use Rattle.easl_model.specs.declared.tree.Step.{Step}
+use Rattle.easl_model.specs.declared.tree.Step.TheVariants.{Assign}
+use Rattle.easl_model.specs.declared.tree.Value.{Value}
+use Rattle.easl_model.specs.declared.tree.Value.TheVariants as value
+use Rattle.easl_model.specs.declared.tree.Word.{Word}
+use Rattle.first_form.specs.Parts.{IsAssignment, ReturnsFirst, scope_of}
+
+-- behind statements that declare nothing
+abbrev behind : ℕ → List Param → List Step → Scope
+behind class params before = record { class = class; params = params; before = before }
+
+begins_behind : (spec : Spec) (class : ℕ) (params : List Param) (before : List Step) (head : Option Word) (slot : ℕ) (first : List ℕ) (sort : Option ℕ) → locals_in before ≡ [] → Begins spec (scope_of class params) head slot first sort → Begins spec (behind class params before) head slot first sort
+begins_behind spec class params before _ _ _ _ none scopes.this = scopes.this
+begins_behind spec class params before _ _ _ _ none (scopes.variable w n sort v) =
+    scopes.variable w n sort (record {
+      variable = v.variable;
+      at = subst (λ ls. slice_get (params ++ ls) n ≡ Some v.variable) (sym none) v.at;
+      named = v.named;
+      typed = v.typed;
+    })
+begins_behind spec class params before _ _ _ _ none (scopes.field w position of free field) =
+    scopes.field w position of (subst (λ ls. All (λ v. v.name.name ≢ w.name) (params ++ ls)) (sym none) free) field
+
+reaches_behind : (spec : Spec) (class : ℕ) (params : List Param) (before : List Step) (path : Path) (r : Reach) (of : ℕ) → locals_in before ≡ [] → Reaches spec (scope_of class params) path r of → Reaches spec (behind class params before) path r of
+reaches_behind spec class params before path r of none reaches = record {
+  first = reaches.first;
+  rest = reaches.rest;
+  start = reaches.start;
+  begins = begins_behind spec class params before path.head r.slot reaches.first (Some reaches.start) none reaches.begins;
+  leads = reaches.leads;
+  fields = reaches.fields;
+}
+
+argument_behind : (spec : Spec) (class : ℕ) (params : List Param) (before : List Step) (x : Arg) (r : Option Reach) → locals_in before ≡ [] → IsArgumentOf spec (scope_of class params) x r → IsArgumentOf spec (behind class params before) x r
+argument_behind spec class params before (arg.Literal w) None none is = is
+argument_behind spec class params before (arg.Literal w) (Some r) none is = absurd is
+argument_behind spec class params before (arg.Path path) None none is = record {
+  slot = is.slot;
+  begins = begins_behind spec class params before path.head is.slot [] None none is.begins;
+  alone = is.alone;
+}
+argument_behind spec class params before (arg.Path path) (Some r) none is =
+    (is.0, reaches_behind spec class params before path r is.0 none is.1)
+
+arguments_behind : (spec : Spec) (class : ℕ) (params : List Param) (before : List Step) (xs : List Arg) (rs : List (Option Reach)) → locals_in before ≡ [] → AllZip (IsArgumentOf spec (scope_of class params)) xs rs → AllZip (IsArgumentOf spec (behind class params before)) xs rs
+arguments_behind spec class params before [] [] none zip = tt
+arguments_behind spec class params before [] (r ∷ rs) none zip = absurd zip
+arguments_behind spec class params before (x ∷ xs) [] none zip = absurd zip
+arguments_behind spec class params before (x ∷ xs) (r ∷ rs) none zip =
+    (argument_behind spec class params before x r none zip.0, arguments_behind spec class params before xs rs none zip.1)
+
+source_behind : (spec : Spec) (class : ℕ) (params : List Param) (before : List Step) (v : Value) (s : Source) (of : ℕ) → locals_in before ≡ [] → IsSourceOf spec (scope_of class params) v s of → IsSourceOf spec (behind class params before) v s of
+source_behind spec class params before (value.Path path) (source.Reach r) of none is =
+    reaches_behind spec class params before path r of none is
+source_behind spec class params before (value.Path path) (source.Make made args) of none is = absurd is
+source_behind spec class params before (value.New new) (source.Reach r) of none is = absurd is
+source_behind spec class params before (value.New new) (source.Make made args) of none is =
+    (is.0, is.1, arguments_behind spec class params before new.args args none is.2)
+
+assignment_behind : (spec : Spec) (class : ℕ) (params : List Param) (before : List Step) (path : Path) (v : Value) (a : Act) (of : ℕ) → locals_in before ≡ [] → IsActOf spec (scope_of class params) (Assign path v) a of → IsActOf spec (behind class params before) (Assign path v) a of
+assignment_behind spec class params before path v (act.Local s) of none is = absurd is
+assignment_behind spec class params before path v (act.Change slot s) of none is =
+    (reaches_behind spec class params before path _ of none is.0, source_behind spec class params before v s of none is.1)
+assignment_behind spec class params before path v (act.Write target field s) of none is =
+    (reaches_behind spec class params before path _ of none is.0, source_behind spec class params before v s of none is.1)
+
+act_behind : (spec : Spec) (class : ℕ) (params : List Param) (before : List Step) (x : Step) (a : Act) → locals_in before ≡ [] → IsAssignment spec (scope_of class params) x a → (of : ℕ) × IsActOf spec (behind class params before) x a of
+act_behind spec class params before x a none is =
+    let acts = subst (λ y. IsActOf spec (scope_of class params) y a is.class) is.is is.act_is in
+    (is.class, subst (λ y. IsActOf spec (behind class params before) y a is.class) (sym is.is) (assignment_behind spec class params before is.path is.value a is.class none acts))
+
+-- assignments declare nothing, nor do some of them
+pub no_locals_in : (spec : Spec) (scope : Scope) (xs : List Step) (acts : List Act) (n : ℕ) → AllZip (IsAssignment spec scope) xs acts → locals_in (take n xs) ≡ []
+no_locals_in spec scope [] acts zero zip = refl
+no_locals_in spec scope [] acts (suc n) zip = refl
+no_locals_in spec scope (x ∷ xs) [] n zip = absurd zip
+no_locals_in spec scope (x ∷ xs) (a ∷ acts) zero zip = refl
+no_locals_in spec scope (x ∷ xs) (a ∷ acts) (suc n) zip =
+    ap (λ y. locals_in (y ∷ take n xs)) zip.0.is ∙ no_locals_in spec scope xs acts n zip.1
+
+acts_from : (spec : Spec) (b : Body) (n : ℕ) (xs : List Step) (acts : List Act) → ((k : ℕ) → locals_in (take k b.code.body) ≡ []) → AllZip (IsAssignment spec (scope_of b.class b.code.params)) xs acts → AreActsOf spec b n xs acts
+acts_from spec b n [] [] none zip = tt
+acts_from spec b n [] (a ∷ acts) none zip = absurd zip
+acts_from spec b n (x ∷ xs) [] none zip = absurd zip
+acts_from spec b n (x ∷ xs) (a ∷ acts) none zip =
+    (act_behind spec b.class b.code.params (take n b.code.body) x a (none n) zip.0, acts_from spec b (suc n) xs acts none zip.1)
+
+pub acts_are : (spec : Spec) (b : Body) (acts : List Act) → AllZip (IsAssignment spec (scope_of b.class b.code.params)) b.code.body acts → AreActsOf spec b 0 b.code.body acts
+acts_are spec b acts zip =
+    acts_from spec b 0 b.code.body acts (λ k. no_locals_in spec (scope_of b.class b.code.params) b.code.body acts k zip) zip
+
+pub return_is : (spec : Spec) (b : Body) (acts : List Act) (v : Option Value) (s : Option Source) (result : Option ℕ) → AllZip (IsAssignment spec (scope_of b.class b.code.params)) b.code.body acts → ReturnsFirst spec (scope_of b.class b.code.params) v s result → IsReturnOf spec b v s result
+return_is spec b acts None None result zip is = is
+return_is spec b acts None (Some s) result zip is = absurd is
+return_is spec b acts (Some v) None result zip is = absurd is
+return_is spec b acts (Some v) (Some s) None zip is = absurd is
+return_is spec b acts (Some v) (Some s) (Some of) zip is =
+    source_behind spec b.class b.code.params (take (length b.code.body) b.code.body) v s of (no_locals_in spec (scope_of b.class b.code.params) b.code.body acts (length b.code.body) zip) is
+
+-- a method
+pub method_is : (spec : Spec) (class : ℕ) (code : Code) (m : Method) → m.class ≡ class → m.name ≡ code.name.name → m.constructor ≡ false → AllZip (λ p sort. IsSort spec p.sort sort) code.params m.params → m.names ≡ map (λ p. p.name.name) code.params → AllZip (IsTestOf spec (scope_of class code.params)) code.clauses m.clauses → AllZip (IsAssignment spec (scope_of class code.params)) code.body m.body → IsSort spec code.result m.result → ReturnsFirst spec (scope_of class code.params) code.value m.value m.result → IsMethodOf spec (method_body class code) m
+method_is spec class code m of name is_method params names clauses body result returns = record {
+  class = of;
+  name = name;
+  constructor = is_method;
+  params = params;
+  names = names;
+  clauses = clauses;
+  body = acts_are spec (method_body class code) m.body body;
+  result = (result, return_is spec (method_body class code) m.body code.value m.value m.result body returns);
+}
+
+-- a constructor that is written
+pub constructor_is : (spec : Spec) (class : ℕ) (c : Class) (code : Code) (m : Method) → constructor_in c.members ≡ Some code → m.class ≡ class → m.name ≡ c.name.name → code.name.name ≡ c.name.name → m.constructor ≡ true → AllZip (λ p sort. IsSort spec p.sort sort) code.params m.params → m.names ≡ map (λ p. p.name.name) code.params → code.clauses ≡ [] → m.clauses ≡ [] → AllZip (IsAssignment spec (scope_of class code.params)) code.body m.body → m.result ≡ Some class → m.value ≡ None → IsMethodOf spec (constructor_body class c) m
+constructor_is spec class c code m written of name same is_constructor params names no_clauses none body result no_value =
+    let b : Body = record { class = class; constructor = true; code = code } in
+    let is : IsMethodOf spec b m = record {
+      class = of;
+      name = name ∙ sym same;
+      constructor = is_constructor;
+      params = params;
+      names = names;
+      clauses = rw (no_clauses, none) tt;
+      body = acts_are spec b m.body body;
+      result = (result, no_value);
+    } in
+    subst (λ o. IsMethodOf spec (record { class = class; constructor = true; code = constructor_or_implicit c o }) m) (sym written) is
+
+-- an implicit one
+pub implicit_is : (spec : Spec) (class : ℕ) (c : Class) (m : Method) → constructor_in c.members ≡ None → m.class ≡ class → m.name ≡ c.name.name → m.constructor ≡ true → m.params ≡ [] → m.names ≡ [] → m.clauses ≡ [] → m.body ≡ [] → m.result ≡ Some class → m.value ≡ None → IsMethodOf spec (constructor_body class c) m
+implicit_is spec class c m none of name is_constructor params names clauses body result no_value =
+    let b : Body = record { class = class; constructor = true; code = implicit_constructor c } in
+    let is : IsMethodOf spec b m = record {
+      class = of;
+      name = name;
+      constructor = is_constructor;
+      params = rw params tt;
+      names = names;
+      clauses = rw clauses tt;
+      body = rw body tt;
+      result = (result, no_value);
+    } in
+    subst (λ o. IsMethodOf spec (record { class = class; constructor = true; code = constructor_or_implicit c o }) m) (sym none) is
+
+-- the members of a class that is there
+pub members_there : (spec : Spec) (class : ℕ) (c : Class) → slice_get spec.classes class ≡ Some c → members_of spec class ≡ c.members
+members_there spec class c there = rw there

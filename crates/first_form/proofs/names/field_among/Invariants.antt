@@ -1,0 +1,9 @@
+use Rattle.std.proofs.Common.{◌≤◌}
+use Rattle.first_form.proofs.NamesLemmas.{ArePassed}
+use Rattle.first_form.proofs.names.field_among.Given as goal
+
+abbrev pub invariant-each : goal.invariant-each
+invariant-each l = record {
+  few : l.position ≤ l.member-index;
+  passed : ArePassed l.members l.member-index l.position;
+}
