@@ -353,6 +353,9 @@ mapped {A} {B} r g S G law = respell (λ ts. r ts >>= λ x us. Got (g x) us) (Th
     (λ w z s. (s.0, w, [], s.1, (refl, s.2), sym (append-nil w)))
     (both r (λ x us. Got (g x) us) S (λ x. End (g x)) G G law (λ x. empty (g x) G) (λ x w k z s a. subst (λ m. Avoids G (m ++ k)) (sym s.0) a))
 
+pub no_none : (p : Kind → Bool) → Apart p none
+no_none p k f g = g
+
 pub avoids_none : (k : List Token) → Avoids none k
 avoids_none [] = tt
 avoids_none (t ∷ k) = λ g. g

@@ -1,10 +1,13 @@
 pub mod Along
+pub mod Answered
 pub mod Depth
 pub mod Laws
 pub mod Lefts
 pub mod Levels
 pub mod Repeats
 pub mod Tested
+pub mod TypeLaws
 pub mod Unclosed
 pub mod Whole
+pub mod Within
 pub mod Words

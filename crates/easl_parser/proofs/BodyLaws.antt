@@ -18,7 +18,7 @@ use Rattle.easl_model.specs.declared.tree.Value.{Value}
 use Rattle.easl_model.specs.declared.tree.Value.TheVariants as value
 use Rattle.easl_model.specs.declared.tree.Word.{Word}
 use Rattle.cv_read.specs.Read.{Got, ◌>>=◌, is_mark, is_key, is_name, nothing_of, place_of, before_mark, behind_key, listed_at}
-use Rattle.cv_read.proofs.Laws.{Lang, none, either, Front, Apart, Reads, Then, Mapped, Or, End, both, mapped, empty, respell, front_avoids, front_append, front_less}
+use Rattle.cv_read.proofs.Laws.{Lang, none, either, Front, Apart, Reads, Then, Mapped, Or, End, both, mapped, empty, respell, no_none, front_avoids, front_append, front_less}
 use Rattle.cv_read.proofs.Repeats.{Star, ListGoes, listed_law, repeated, or_left, or_right}
 use Rattle.cv_read.proofs.Tested.{mark_to, mark_from, key_to, key_from, name_to, name_from, literal_to, literal_from}
 use Rattle.cv_read.proofs.Words.{Led, Closed, Parens, led, led_starts, closed, parens, two_ways, or_nothing}
@@ -52,9 +52,6 @@ TailStarts = either (is_mark mark.Dot) (is_mark mark.Assign)
 tail_no_name : Apart TailStarts is_name
 tail_no_name kind.Name f g = f
 tail_no_name k f g = g
-
-pub no_none : (p : Kind → Bool) → Apart p none
-no_none p k f g = g
 
 abbrev pub StepsGo : Kind → Bool
 StepsGo = either none path_starts

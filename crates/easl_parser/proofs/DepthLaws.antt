@@ -1,7 +1,7 @@
 -- What is spelled closes what it opens, and the reader goes too deep only where too many brackets stand.
 use Rattle.std.proofs.Common.{◌≡◌, ℕ, zero, suc, true, false, Option, Some, None, List, [], ◌∷◌, ◌++◌, refl, ◌∙◌, ap, arith}
 use Rattle.easl_model.specs.Brackets.{turned, level_after}
-use Rattle.easl_model.specs.Grammar.{IsFields, no_fields, next_field, IsPath, this_path, named_path, IsAny, any_one, any_more, IsAlls, no_alls, next_all, IsAll, all_one, all_more, IsAtoms, no_atoms, next_atom, IsAtom, same, differ, group, IsListed, IsArg, IsValue, IsSet, IsStep, IsClause, IsReturn, IsType, IsParam, IsParams, IsMember, IsClass}
+use Rattle.easl_model.specs.Grammar.{IsFields, no_fields, next_field, IsPath, this_path, named_path, IsAny, any_one, any_more, IsAlls, no_alls, next_all, IsAll, all_one, all_more, IsAtoms, no_atoms, next_atom, IsAtom, same, differ, group, IsListed, IsArg, IsValue, IsSet, IsStep, IsClause, IsReturn, IsParams, IsMember, IsClass}
 use Rattle.easl_model.specs.Lexemes.{is_literal, word_of}
 use Rattle.easl_model.specs.declared.place.Place.{Place}
 use Rattle.easl_model.specs.declared.token.Key.TheVariants as key
@@ -19,13 +19,15 @@ use Rattle.easl_model.specs.declared.tree.Value.TheVariants as value
 use Rattle.easl_model.specs.declared.tree.Word.{Word}
 use Rattle.cv_read.specs.Read.{Read, Got, ◌>>=◌, take_at, is_mark, is_key, is_name, nothing_of, place_of, name_at, literal_at, mark_at, mark_place_at, behind_mark, behind_key, before_mark, items_at, listed_at, parens_at}
 use Rattle.cv_read.proofs.Depth.{Even, Bounded, bounded_both, bounded_choose, bounded_take, bounded_got, bounded_bracket, bounded_items}
-use Rattle.cv_read.proofs.Laws.{none, Reads, Mapped, One, Or, End}
+use Rattle.cv_read.specs.Types.{opaque_at, params_at}
+use Rattle.cv_read.proofs.Laws.{none, no_none, Reads, Mapped, One, End}
 use Rattle.cv_read.proofs.Levels.{Flat, Falls, mark_flat, key_flat, name_flat, literal_flat, open_opens, begin_opens, close_closes, end_closes, even_append, even_from, even_end, even_one, even_mapped, even_then, even_or, even_led, even_closed, even_star, even_listed, even_opened, even_parens, falls_one, falls_mapped, falls_then, bounded_mapped, bounded_led, bounded_closed, bounded_parens, bounded_listed}
 use Rattle.cv_read.proofs.Repeats.{Star, ListGoes, listed_law}
 use Rattle.cv_read.proofs.Tested.{mark_from, key_from, name_from}
+use Rattle.cv_read.proofs.TypeLaws.{OpaqueLang, opaque_within, params_within}
 use Rattle.cv_read.proofs.Unclosed.{level-append}
 use Rattle.cv_read.proofs.Words.{Led, Closed}
-use Rattle.easl_parser.specs.Reading.{path_of, path_starts, field_at, this_path_at, named_path_at, path_at, arg_starts, literal_arg_at, path_arg_at, arg_at, args_at, new_behind, new_at, path_value_at, value_at, sign_at, compare, comparison_at, one_or_all, one_or_any, and_by, or_by, atom_by, all_by, any_by, any_at, set_at, assign_at, declare_at, step_behind, this_step_at, named_step_at, step_read, steps_at, clause_at, clauses_at, return_some, return_at, is_opaque, opaque_of, opaque_at, class_type_at, type_at, type_starts, param_at, params_at, constructor_at, method_at, behind_two, two_names_at, behind_one, named_member_at, plain_at, plain_method_at, member_at, member_starts, members_at, class_at, classes_at, spec_at}
+use Rattle.easl_parser.specs.Reading.{path_of, path_starts, field_at, this_path_at, named_path_at, path_at, arg_starts, literal_arg_at, path_arg_at, arg_at, args_at, new_behind, new_at, path_value_at, value_at, sign_at, compare, comparison_at, one_or_all, one_or_any, and_by, or_by, atom_by, all_by, any_by, any_at, set_at, assign_at, declare_at, step_behind, this_step_at, named_step_at, step_read, steps_at, clause_at, clauses_at, return_some, return_at, constructor_at, method_at, behind_two, two_names_at, behind_one, named_member_at, plain_at, plain_method_at, member_at, member_starts, members_at, class_at, classes_at, spec_at}
 use Rattle.easl_parser.proofs.PathLaws.{PathGoes, FieldLang, field_law, field_starts, field_apart, HeadFields, head_law, path_law}
 use Rattle.easl_parser.proofs.CondLaws.{AllGoes, AnyGoes, SignLang, sign_law, AndAtom, OrAll, and_law, and_begins, and_apart, or_law, or_begins, or_apart, atom_law, all_law, conditions_law}
 use Rattle.easl_parser.proofs.BodyLaws as body
@@ -52,13 +54,6 @@ assign_flat = mark_flat mark.Assign (λ b. refl)
 semicolon_flat : Flat (is_mark mark.Semicolon)
 semicolon_flat = mark_flat mark.Semicolon (λ b. refl)
 
-opaque_flat : Flat is_opaque
-opaque_flat (kind.Key k) h b = refl
-opaque_flat kind.Name h b = absurd h
-opaque_flat kind.Number h b = absurd h
-opaque_flat kind.Text h b = absurd h
-opaque_flat (kind.Mark m) h b = absurd h
-
 sign_even : Even SignLang
 sign_even = even_or (Led (is_mark mark.Same) nothing_of (λ _. End true)) (Led (is_mark mark.Differ) nothing_of (λ _. End false))
     (even_led (is_mark mark.Same) nothing_of (λ _. End true) same_flat (λ _. even_end true))
@@ -69,11 +64,8 @@ sign_bound d = bounded_choose (is_mark mark.Same) (behind_mark mark.Same (λ us.
     (bounded_mapped (mark_at mark.Same) (λ _. true) d (bounded_take (is_mark mark.Same) nothing_of d))
     (bounded_mapped (mark_at mark.Differ) (λ _. false) d (bounded_take (is_mark mark.Differ) nothing_of d))
 
-opaque_bound : (d : ℕ) → Bounded opaque_at d
-opaque_bound d = bounded_mapped (take_at is_opaque opaque_of) sort.Opaque d (bounded_take is_opaque opaque_of d)
-
 plain_bound : (d : ℕ) → Bounded plain_at d
-plain_bound d = bounded_choose (is_key key.Void) (behind_key key.Void (λ us. Got sort.Void us)) opaque_at d (bounded_mapped (take_at (is_key key.Void) nothing_of) (λ _. sort.Void) d (bounded_take (is_key key.Void) nothing_of d)) (opaque_bound d)
+plain_bound d = bounded_choose (is_key key.Void) (behind_key key.Void (λ us. Got sort.Void us)) opaque_at d (bounded_mapped (take_at (is_key key.Void) nothing_of) (λ _. sort.Void) d (bounded_take (is_key key.Void) nothing_of d)) ((opaque_within d).bound)
 
 module _ (text : List ℕ) where
   -- languages
@@ -149,35 +141,23 @@ module _ (text : List ℕ) where
       (even_led (is_key key.Return) nothing_of (λ _. Mapped (Closed mark.Semicolon (IsValue text)) Some) (key_flat key.Return) (λ _. even_mapped (Closed mark.Semicolon (IsValue text)) Some (even_closed mark.Semicolon (IsValue text) semicolon_flat value_even)))
       (even_end None))
 
-  opaque_even : Even (code.OpaqueLang text)
-  opaque_even = even_led is_opaque opaque_of (λ o. End (sort.Opaque o)) opaque_flat (λ o. even_end (sort.Opaque o))
-
-  type_even : Even (IsType text)
-  type_even = even_from (Or (code.OpaqueLang text) (code.ClassTypeLang text)) (IsType text) (code.type_from text) (even_or (code.OpaqueLang text) (code.ClassTypeLang text) opaque_even (even_led is_name (word_of text) (λ w. End (sort.Class w)) name_flat (λ w. even_end (sort.Class w))))
-
-  param_even : Even (IsParam text)
-  param_even = even_from (code.ParamLang text) (IsParam text) (code.param_from text) (even_then (IsType text) (λ x. Led is_name (word_of text) (λ n. End (record { sort = x; name = n }))) type_even (λ x. even_led is_name (word_of text) (λ n. End (record { sort = x; name = n })) name_flat (λ n. even_end (record { sort = x; name = n }))))
-
-  params_even : Even (IsParams text)
-  params_even = even_from (code.ParamsLang text) (IsParams text) (code.params_from text) (even_parens (IsListed (IsParam text)) (even_listed (IsParam text) param_even))
-
   brace_falls : {B : Type 0} (g : Place → B) → Falls (Mapped code.Brace g)
   brace_falls g = falls_mapped code.Brace g (falls_one (is_mark mark.End) place_of end_closes)
 
   constructor_even : (n : Word) → Even (code.ConstructorLang text n)
-  constructor_even n = even_then (IsParams text) (λ ps. code.InBraces text (code.StepsClose text (code.constructor_of n ps))) params_even
+  constructor_even n = even_then (IsParams text) (λ ps. code.InBraces text (code.StepsClose text (code.constructor_of n ps))) ((params_within text none 0).even)
       (λ ps. even_opened (is_mark mark.Begin) nothing_of (λ _. code.StepsClose text (code.constructor_of n ps)) begin_opens
       (λ _. falls_then (Star (IsStep text)) (λ xs. Mapped code.Brace (code.constructor_of n ps xs)) (even_star (IsStep text) step_even) (λ xs. brace_falls (code.constructor_of n ps xs))))
 
   method_even : (r : Sort) (n : Word) → Even (code.MethodLang text r n)
-  method_even r n = even_then (IsParams text) (λ ps. code.InBraces text (code.ClausesTail text (code.method_of r n ps))) params_even
+  method_even r n = even_then (IsParams text) (λ ps. code.InBraces text (code.ClausesTail text (code.method_of r n ps))) ((params_within text none 0).even)
       (λ ps. even_opened (is_mark mark.Begin) nothing_of (λ _. code.ClausesTail text (code.method_of r n ps)) begin_opens
       (λ _. falls_then (Star (IsClause text)) (λ cs. code.StepsTail text (code.method_of r n ps cs)) (even_star (IsClause text) clause_even)
       (λ cs. falls_then (Star (IsStep text)) (λ xs. code.ReturnTail text (code.method_of r n ps cs xs)) (even_star (IsStep text) step_even)
       (λ xs. falls_then (IsReturn text) (λ x. Mapped code.Brace (code.method_of r n ps cs xs x)) return_even (λ x. brace_falls (code.method_of r n ps cs xs x))))))
 
   plain_even : Even (code.PlainLang text)
-  plain_even = even_or (Led (is_key key.Void) nothing_of (λ _. End sort.Void)) (code.OpaqueLang text) (even_led (is_key key.Void) nothing_of (λ _. End sort.Void) (key_flat key.Void) (λ _. even_end sort.Void)) opaque_even
+  plain_even = even_or (Led (is_key key.Void) nothing_of (λ _. End sort.Void)) (OpaqueLang) (even_led (is_key key.Void) nothing_of (λ _. End sort.Void) (key_flat key.Void) (λ _. even_end sort.Void)) ((opaque_within 0).even)
 
   field_even : (c n : Word) → Even (code.FieldLang text c n)
   field_even c n = even_led (is_mark mark.Semicolon) nothing_of (λ _. End (member.Field (record { class = c; name = n }))) semicolon_flat (λ _. even_end (member.Field (record { class = c; name = n })))
@@ -271,14 +251,14 @@ module _ (text : List ℕ) where
       (assign_bound (Some c) c.place d)))
 
   steps_bound : (d : ℕ) → Bounded (steps_at text) (suc d)
-  steps_bound d = bounded_items path_starts (step_read text) (IsStep text) none (body.step_law text) (body.step_begins text) (body.no_none path_starts) step_even (suc d) (step_bound d)
+  steps_bound d = bounded_items path_starts (step_read text) (IsStep text) none (body.step_law text) (body.step_begins text) (no_none path_starts) step_even (suc d) (step_bound d)
 
   clause_bound : (d : ℕ) → Bounded (clause_at text d) d
   unfolding clause_at
   clause_bound d = bounded_led (is_key key.Requires) nothing_of (kind.Key key.Requires) tt (key_flat key.Requires) (λ _ us. before_mark mark.Semicolon (any_at text d) us) d (λ _. bounded_closed mark.Semicolon (any_at text d) (IsAny text) AnyGoes d (conditions_law text d) any_even (conditions_bound d))
 
   clauses_bound : (d : ℕ) → Bounded (clauses_at text d) d
-  clauses_bound d = bounded_items (is_key key.Requires) (clause_at text d) (IsClause text) none (body.clause_law text d) (body.clause_begins text) (body.no_none (is_key key.Requires)) clause_even d (clause_bound d)
+  clauses_bound d = bounded_items (is_key key.Requires) (clause_at text d) (IsClause text) none (body.clause_law text d) (body.clause_begins text) (no_none (is_key key.Requires)) clause_even d (clause_bound d)
 
   return_bound : (d : ℕ) → Bounded (return_at text) (suc d)
   unfolding return_at
@@ -287,29 +267,16 @@ module _ (text : List ℕ) where
       (λ _. bounded_mapped (before_mark mark.Semicolon (value_at text)) Some (suc d) (bounded_closed mark.Semicolon (value_at text) (IsValue text) PathGoes (suc d) (body.value_law text) value_even (value_bound d))))
       (bounded_got None (suc d))
 
-  type_bound : (d : ℕ) → Bounded (type_at text) d
-  type_bound d = bounded_choose is_opaque opaque_at (class_type_at text) d (opaque_bound d) (bounded_mapped (name_at text) sort.Class d (bounded_take is_name (word_of text) d))
-
-  param_bound : (d : ℕ) → Bounded (param_at text) d
-  unfolding param_at
-  param_bound d = bounded_both (type_at text) (λ x us. name_at text us >>= λ n vs. Got (record { sort = x; name = n }) vs) (IsType text) none d (code.type_law text) type_even (type_bound d)
-      (λ x. bounded_mapped (name_at text) (λ n. record { sort = x; name = n }) d (bounded_take is_name (word_of text) d))
-
-  params_bound : (d : ℕ) → Bounded (params_at text) (suc d)
-  unfolding params_at
-  params_bound d = bounded_parens (listed_at type_starts (param_at text)) (IsListed (IsParam text)) (ListGoes none type_starts) d (listed_law type_starts (param_at text) (IsParam text) none (code.param_law text) (code.param_begins text) (body.no_none (is_mark mark.Comma))) (even_listed (IsParam text) param_even)
-      (bounded_listed type_starts (param_at text) (IsParam text) none (code.param_law text) (code.param_begins text) (body.no_none (is_mark mark.Comma)) d param_even (param_bound d))
-
   constructor_bound : (d : ℕ) (n : Word) → Bounded (constructor_at text n) (suc (suc d))
   unfolding constructor_at
-  constructor_bound d n = bounded_both (params_at text) (λ ps us. mark_at mark.Begin us >>= λ _ vs. steps_at text vs >>= λ xs ws. mark_place_at mark.End ws >>= λ e zs. Got (code.constructor_of n ps xs e) zs) (IsParams text) none (suc (suc d)) (code.params_law text none) params_even (params_bound (suc d))
+  constructor_bound d n = bounded_both (params_at text) (λ ps us. mark_at mark.Begin us >>= λ _ vs. steps_at text vs >>= λ xs ws. mark_place_at mark.End ws >>= λ e zs. Got (code.constructor_of n ps xs e) zs) (IsParams text) none (suc (suc d)) ((params_within text none d).reads) ((params_within text none d).even) ((params_within text none (suc d)).bound)
       (λ ps. bounded_bracket (is_mark mark.Begin) nothing_of (λ _ vs. steps_at text vs >>= λ xs ws. mark_place_at mark.End ws >>= λ e zs. Got (code.constructor_of n ps xs e) zs) (suc d) begin_opens
       (λ _. bounded_both (steps_at text) (λ xs ws. mark_place_at mark.End ws >>= λ e zs. Got (code.constructor_of n ps xs e) zs) (Star (IsStep text)) body.StepsGo (suc d) (body.steps_law text) (even_star (IsStep text) step_even) (steps_bound d)
       (λ xs. bounded_mapped (mark_place_at mark.End) (code.constructor_of n ps xs) (suc d) (bounded_take (is_mark mark.End) place_of (suc d)))))
 
   method_bound : (d : ℕ) (r : Sort) (n : Word) → Bounded (method_at text (suc d) r n) (suc (suc d))
   unfolding method_at
-  method_bound d r n = bounded_both (params_at text) (λ ps us. mark_at mark.Begin us >>= λ _ vs. clauses_at text (suc d) vs >>= λ cs ws. steps_at text ws >>= λ xs ys. return_at text ys >>= λ x bs. mark_place_at mark.End bs >>= λ e zs. Got (code.method_of r n ps cs xs x e) zs) (IsParams text) none (suc (suc d)) (code.params_law text none) params_even (params_bound (suc d))
+  method_bound d r n = bounded_both (params_at text) (λ ps us. mark_at mark.Begin us >>= λ _ vs. clauses_at text (suc d) vs >>= λ cs ws. steps_at text ws >>= λ xs ys. return_at text ys >>= λ x bs. mark_place_at mark.End bs >>= λ e zs. Got (code.method_of r n ps cs xs x e) zs) (IsParams text) none (suc (suc d)) ((params_within text none d).reads) ((params_within text none d).even) ((params_within text none (suc d)).bound)
       (λ ps. bounded_bracket (is_mark mark.Begin) nothing_of (λ _ vs. clauses_at text (suc d) vs >>= λ cs ws. steps_at text ws >>= λ xs ys. return_at text ys >>= λ x bs. mark_place_at mark.End bs >>= λ e zs. Got (code.method_of r n ps cs xs x e) zs) (suc d) begin_opens
       (λ _. bounded_both (clauses_at text (suc d)) (λ cs ws. steps_at text ws >>= λ xs ys. return_at text ys >>= λ x bs. mark_place_at mark.End bs >>= λ e zs. Got (code.method_of r n ps cs xs x e) zs) (Star (IsClause text)) body.ClausesGo (suc d) (body.clauses_law text (suc d)) (even_star (IsClause text) clause_even) (clauses_bound (suc d))
       (λ cs. bounded_both (steps_at text) (λ xs ys. return_at text ys >>= λ x bs. mark_place_at mark.End bs >>= λ e zs. Got (code.method_of r n ps cs xs x e) zs) (Star (IsStep text)) body.StepsGo (suc d) (body.steps_law text) (even_star (IsStep text) step_even) (steps_bound d)
@@ -333,11 +300,11 @@ module _ (text : List ℕ) where
       (λ _. bounded_led is_name (word_of text) kind.Name tt name_flat (λ n vs. mark_at mark.Begin vs >>= λ _ ws. members_at text (suc d) ws >>= λ xs ys. mark_at mark.End ys >>= λ _ zs. Got (record { name = n; members = xs }) zs) (suc (suc (suc d)))
       (λ n. bounded_bracket (is_mark mark.Begin) nothing_of (λ _ ws. members_at text (suc d) ws >>= λ xs ys. mark_at mark.End ys >>= λ _ zs. Got (record { name = n; members = xs }) zs) (suc (suc d)) begin_opens
       (λ _. bounded_both (members_at text (suc d)) (λ xs ys. mark_at mark.End ys >>= λ _ zs. Got (record { name = n; members = xs }) zs) (Star (IsMember text)) code.MembersGo (suc (suc d)) (code.members_law text (suc d)) (even_star (IsMember text) member_even)
-      (bounded_items member_starts (member_at text (suc d)) (IsMember text) none (code.member_law text (suc d)) (code.member_begins text) (body.no_none member_starts) member_even (suc (suc d)) (member_bound d))
+      (bounded_items member_starts (member_at text (suc d)) (IsMember text) none (code.member_law text (suc d)) (code.member_begins text) (no_none member_starts) member_even (suc (suc d)) (member_bound d))
       (λ xs. bounded_mapped (mark_at mark.End) (λ _. record { name = n; members = xs }) (suc (suc d)) (bounded_take (is_mark mark.End) nothing_of (suc (suc d)))))))
 
   -- a condition stands in two braces
   pub spec_bound : (d : ℕ) (end : Place) → Bounded (spec_at text (suc d) end) (suc (suc (suc d)))
   unfolding spec_at
   spec_bound d end = bounded_both (class_at text (suc d)) (λ x us. classes_at text (suc d) us >>= λ xs vs. Got (record { classes = x ∷ xs; end = end }) vs) (IsClass text) none (suc (suc (suc d))) (code.class_law text (suc d)) class_even (class_bound d)
-      (λ x. bounded_mapped (classes_at text (suc d)) (λ xs. record { classes = x ∷ xs; end = end }) (suc (suc (suc d))) (bounded_items (is_key key.Class) (class_at text (suc d)) (IsClass text) none (code.class_law text (suc d)) (code.class_begins text) (body.no_none (is_key key.Class)) class_even (suc (suc (suc d))) (class_bound d)))
+      (λ x. bounded_mapped (classes_at text (suc d)) (λ xs. record { classes = x ∷ xs; end = end }) (suc (suc (suc d))) (bounded_items (is_key key.Class) (class_at text (suc d)) (IsClass text) none (code.class_law text (suc d)) (code.class_begins text) (no_none (is_key key.Class)) class_even (suc (suc (suc d))) (class_bound d)))

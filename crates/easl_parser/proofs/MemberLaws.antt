@@ -1,7 +1,7 @@
 -- The reader of members, classes and specifications reads their grammar.
 use Rattle.std.proofs.Common.{◌≡◌, ℕ, Bool, Option, None, List, [], ◌∷◌, ◌++◌, refl, sym, ◌∙◌, ap, subst, inl, inr}
-use Rattle.easl_model.specs.Grammar.{opaque_key, IsListed, IsClause, IsStep, IsReturn, no_return, with_return, IsType, opaque_type, class_type, IsResult, no_result, some_result, IsParam, param, IsParams, params, IsMember, field, constructor, method, IsClass, class, IsSpec, spec}
-use Rattle.easl_model.specs.Lexemes.{word_of, IsKey, IsName}
+use Rattle.easl_model.specs.Grammar.{IsClause, IsStep, IsReturn, no_return, with_return, IsType, opaque_type, class_type, IsResult, no_result, some_result, IsParams, IsMember, field, constructor, method, IsClass, class, IsSpec, spec}
+use Rattle.easl_model.specs.Lexemes.{word_of, IsName}
 use Rattle.easl_model.specs.declared.place.Place.{Place}
 use Rattle.easl_model.specs.declared.token.Key.TheVariants as key
 use Rattle.easl_model.specs.declared.token.Kind.{Kind}
@@ -12,8 +12,6 @@ use Rattle.easl_model.specs.declared.tree.Class.{Class}
 use Rattle.easl_model.specs.declared.tree.Cond.{Cond}
 use Rattle.easl_model.specs.declared.tree.Member.{Member}
 use Rattle.easl_model.specs.declared.tree.Member.TheVariants as member
-use Rattle.easl_model.specs.declared.tree.Opaque.{Opaque}
-use Rattle.easl_model.specs.declared.tree.Opaque.TheVariants as opaque
 use Rattle.easl_model.specs.declared.tree.Param.{Param}
 use Rattle.easl_model.specs.declared.tree.Sort.{Sort}
 use Rattle.easl_model.specs.declared.tree.Sort.TheVariants as sort
@@ -21,17 +19,15 @@ use Rattle.easl_model.specs.declared.tree.Spec.{Spec}
 use Rattle.easl_model.specs.declared.tree.Step.{Step}
 use Rattle.easl_model.specs.declared.tree.Value.{Value}
 use Rattle.easl_model.specs.declared.tree.Word.{Word}
-use Rattle.cv_read.specs.Read.{Got, ◌>>=◌, is_mark, is_key, is_name, nothing_of, place_of, name_at, mark_at, mark_place_at, behind_mark, behind_key, listed_at}
-use Rattle.cv_read.proofs.Laws.{Lang, Is, none, either, Front, Apart, Reads, Then, Mapped, One, Or, End, both, one, mapped, empty, respell, avoids_none, front_avoids, front_append, front_less, then_starts}
-use Rattle.cv_read.proofs.Repeats.{Star, ListGoes, listed_law, repeated, star_starts, many_to, many_from, or_left, or_right}
+use Rattle.cv_read.specs.Read.{Got, ◌>>=◌, is_mark, is_key, is_name, nothing_of, place_of, name_at, mark_at, mark_place_at, behind_mark, behind_key}
+use Rattle.cv_read.specs.Types.{is_opaque, opaque_at, type_starts, params_at}
+use Rattle.cv_read.proofs.Laws.{Lang, none, either, Front, Apart, Reads, Then, Mapped, One, Or, End, both, one, mapped, empty, respell, no_none, avoids_none, front_avoids, front_append, front_less, then_starts}
+use Rattle.cv_read.proofs.Repeats.{Star, repeated, star_starts, many_to, many_from, or_left, or_right}
 use Rattle.cv_read.proofs.Tested.{mark_to, mark_from, key_to, key_from, name_to, name_from}
-use Rattle.cv_read.proofs.Words.{Led, Parens, led, led_starts, parens, two_ways}
-use Rattle.easl_parser.specs.Reading.{path_starts, steps_at, clauses_at, return_at, is_opaque, opaque_in, opaque_of, opaque_at, class_type_at, type_at, type_starts, param_at, params_at, constructor_at, method_at, behind_two, two_names_at, behind_one, named_member_at, plain_at, plain_method_at, member_at, member_starts, members_at, class_at, classes_at, spec_at}
-use Rattle.easl_parser.proofs.BodyLaws.{StepsGo, ClausesGo, no_none, steps_law, step_begins, clauses_law, return_law}
-
-name_no_opaque : Apart is_name is_opaque
-name_no_opaque kind.Name f g = g
-name_no_opaque k f g = f
+use Rattle.cv_read.proofs.TypeLaws.{opaque_from, opaque_same, OpaqueLang, opaque_within, opaque_begins, opaque_spelled, type_begins, params_within, params_begins}
+use Rattle.cv_read.proofs.Words.{Led, led, led_starts, two_ways}
+use Rattle.easl_parser.specs.Reading.{path_starts, steps_at, clauses_at, return_at, constructor_at, method_at, behind_two, two_names_at, behind_one, named_member_at, plain_at, plain_method_at, member_at, member_starts, members_at, class_at, classes_at, spec_at}
+use Rattle.easl_parser.proofs.BodyLaws.{StepsGo, ClausesGo, steps_law, step_begins, clauses_law, return_law}
 
 opaque_no_void : Apart is_opaque (is_key key.Void)
 opaque_no_void (kind.Key key.Void) f g = f
@@ -86,35 +82,6 @@ brace_no_member k f g = f
 abbrev pub SpecGoes : Kind → Bool
 SpecGoes = either none (is_key key.Class)
 
--- opaque types
-opaque_kind : (k : Kind) → Is (is_opaque k) → k ≡ kind.Key (opaque_key (opaque_in k))
-opaque_kind (kind.Key key.Object) h = refl
-opaque_kind (kind.Key key.Int) h = refl
-opaque_kind (kind.Key key.Boolean) h = refl
-opaque_kind (kind.Key key.String) h = refl
-opaque_kind k h = absurd h
-
-opaque_to : (t : Token) → Is (is_opaque t.kind) → IsKey (opaque_key (opaque_of t)) t
-opaque_to t h = record { kind = opaque_kind t.kind h }
-
-opaque_self : (o : Opaque) → Is (is_opaque (kind.Key (opaque_key o)))
-opaque_self opaque.Object = tt
-opaque_self opaque.Int = tt
-opaque_self opaque.Boolean = tt
-opaque_self opaque.String = tt
-
-opaque_from : (o : Opaque) (t : Token) → IsKey (opaque_key o) t → Is (is_opaque t.kind)
-opaque_from o t h = subst (λ k. Is (is_opaque k)) (sym h.kind) (opaque_self o)
-
-opaque_one : (o : Opaque) → o ≡ opaque_in (kind.Key (opaque_key o))
-opaque_one opaque.Object = refl
-opaque_one opaque.Int = refl
-opaque_one opaque.Boolean = refl
-opaque_one opaque.String = refl
-
-opaque_same : (o : Opaque) (t : Token) → IsKey (opaque_key o) t → o ≡ opaque_of t
-opaque_same o t h = opaque_one o ∙ ap opaque_in (sym h.kind)
-
 -- the members with code
 abbrev pub constructor_of : Word → List Param → List Step → Place → Member
 constructor_of n ps xs e = member.Constructor (record { result = sort.Void; name = n; params = ps; clauses = []; body = xs; value = None; end = e })
@@ -133,82 +100,6 @@ brace_begins : {B : Type 0} (g : Place → B) (w : List Token) (z : B) → Mappe
 brace_begins g w z h = subst (Front (is_mark mark.End)) (sym h.1.1) h.1.2
 
 module _ (text : List ℕ) where
-  -- types and parameters
-  abbrev pub OpaqueLang : Lang Sort
-  OpaqueLang = Led is_opaque opaque_of (λ o. End (sort.Opaque o))
-
-  abbrev pub ClassTypeLang : Lang Sort
-  ClassTypeLang = Led is_name (word_of text) (λ w. End (sort.Class w))
-
-  pub opaque_law : Reads opaque_at OpaqueLang none
-  opaque_law = led is_opaque opaque_of (kind.Key key.Int) tt (λ o us. Got (sort.Opaque o) us) (λ o. End (sort.Opaque o)) none (λ o. empty (sort.Opaque o) none)
-
-  opaque_begins : (w : List Token) (x : Sort) → OpaqueLang w x → Front is_opaque w
-  opaque_begins = led_starts is_opaque opaque_of (λ o. End (sort.Opaque o))
-
-  opaque_spelled : (w : List Token) (x : Sort) → OpaqueLang w x → IsType text w x
-  opaque_spelled w x h = subst (IsType text w) (sym h.3.1) (subst (λ m. IsType text m (sort.Opaque (opaque_of h.0))) (sym (h.4 ∙ ap (λ u. h.0 ∷ u) h.3.0)) (opaque_type (opaque_to h.0 h.2)))
-
-  type_to : (w : List Token) (x : Sort) → Or OpaqueLang ClassTypeLang w x → IsType text w x
-  type_to w x (inl h) = opaque_spelled w x h
-  type_to w x (inr h) = subst (IsType text w) (sym h.3.1) (subst (λ m. IsType text m (sort.Class (word_of text h.0))) (sym (h.4 ∙ ap (λ u. h.0 ∷ u) h.3.0)) (class_type (name_to text h.0 (word_of text h.0) h.2 refl)))
-
-  pub type_from : (w : List Token) (x : Sort) → IsType text w x → Or OpaqueLang ClassTypeLang w x
-  type_from w x (opaque_type {t = t} {o = o} h) = inl (t, [], opaque_from o t h, (refl, ap sort.Opaque (opaque_same o t h)), refl)
-  type_from w x (class_type {t = t} {w = n} h) = inr (t, [], name_from text t n h, (refl, ap sort.Class h.word), refl)
-
-  pub type_law : Reads (type_at text) (IsType text) none
-  type_law = respell (type_at text) (Or OpaqueLang ClassTypeLang) (IsType text) none type_to type_from
-      (two_ways is_opaque is_name opaque_at (class_type_at text) OpaqueLang ClassTypeLang none opaque_law
-      (led is_name (word_of text) kind.Name tt (λ w us. Got (sort.Class w) us) (λ w. End (sort.Class w)) none (λ w. empty (sort.Class w) none))
-      opaque_begins (led_starts is_name (word_of text) (λ w. End (sort.Class w))) name_no_opaque)
-
-  type_begins : (w : List Token) (x : Sort) → IsType text w x → Front type_starts w
-  type_begins w x (opaque_type {t = t} {o = o} h) = or_right (is_name t.kind) (is_opaque t.kind) (opaque_from o t h)
-  type_begins w x (class_type {t = t} {w = n} h) = or_left (is_name t.kind) (is_opaque t.kind) (name_from text t n h)
-
-  abbrev pub ParamLang : Lang Param
-  ParamLang = Then (IsType text) (λ x. Led is_name (word_of text) (λ n. End (record { sort = x; name = n })))
-
-  param_to : (w : List Token) (x : Param) → ParamLang w x → IsParam text w x
-  param_to w x h =
-      let t = h.4.0 in
-      let n = word_of text t in
-      let e : w ≡ h.1 ++ t ∷ [] = h.5 ∙ ap (λ u. h.1 ++ u) (h.4.4 ∙ ap (λ u. t ∷ u) h.4.3.0) in
-      subst (IsParam text w) (sym h.4.3.1) (subst (λ m. IsParam text m (record { sort = h.0; name = n })) (sym e) (param h.3 (name_to text t n h.4.2 refl)))
-
-  pub param_from : (w : List Token) (x : Param) → IsParam text w x → ParamLang w x
-  param_from w x (param {name = t} {n = n} {ts = ts} {x = y} h i) =
-      let e : ◌≡◌ {A = Param} (record { sort = y; name = n }) (record { sort = y; name = word_of text t }) = ap (λ (m : Word). record { sort = y; name = m }) i.word in
-      (y, ts, t ∷ [], h, (t, [], name_from text t n i, (refl, e), refl), refl)
-
-  pub param_law : Reads (param_at text) (IsParam text) none
-  unfolding param_at
-  param_law = respell (param_at text) ParamLang (IsParam text) none param_to param_from
-      (both (type_at text) (λ x us. name_at text us >>= λ n vs. Got (record { sort = x; name = n }) vs) (IsType text) (λ x. Led is_name (word_of text) (λ n. End (record { sort = x; name = n }))) none none type_law
-      (λ x. led is_name (word_of text) kind.Name tt (λ n vs. Got (record { sort = x; name = n }) vs) (λ n. End (record { sort = x; name = n })) none (λ n. empty (record { sort = x; name = n }) none))
-      (λ x w k z h a. avoids_none (w ++ k)))
-
-  pub param_begins : (w : List Token) (x : Param) → IsParam text w x → Front type_starts w
-  param_begins w x (param {name = t} {ts = ts} {x = y} h i) = front_append type_starts ts (t ∷ []) (type_begins ts y h)
-
-  abbrev pub ParamsLang : Lang (List Param)
-  ParamsLang = Parens (IsListed (IsParam text))
-
-  params_to : (w : List Token) (x : List Param) → ParamsLang w x → IsParams text w x
-  params_to w x h = subst (λ m. IsParams text m x) (sym (h.4 ∙ ap (λ u. h.0 ∷ u) h.3.4)) (params (mark_to mark.Open h.0 h.2) h.3.2 (mark_to mark.Close h.3.1 h.3.3))
-
-  pub params_from : (w : List Token) (x : List Param) → IsParams text w x → ParamsLang w x
-  params_from w x (params {opening = o} {closing = k} {ts = ts} i h j) = (o, ts ++ k ∷ [], mark_from mark.Open o i, (ts, k, h, mark_from mark.Close k j, refl), refl)
-
-  pub params_law : (H : Kind → Bool) → Reads (params_at text) (IsParams text) H
-  unfolding params_at
-  params_law H = respell (params_at text) ParamsLang (IsParams text) H params_to params_from
-      (parens (listed_at type_starts (param_at text)) (IsListed (IsParam text)) (ListGoes none type_starts) H (listed_law type_starts (param_at text) (IsParam text) none param_law param_begins (no_none (is_mark mark.Comma))) (λ g. g))
-
-  params_begins : (w : List Token) (x : List Param) → IsParams text w x → Front (is_mark mark.Open) w
-  params_begins w x (params {opening = o} i h j) = mark_from mark.Open o i
-
   -- what stands in braces, over what is made of it
   abbrev pub ReturnTail : {B : Type 0} → (Option Value → Place → B) → Lang B
   ReturnTail g = Then (IsReturn text) (λ x. Mapped Brace (g x))
@@ -257,18 +148,18 @@ module _ (text : List ℕ) where
 
   constructor_law : (n : Word) → Reads (constructor_at text n) (ConstructorLang n) none
   unfolding constructor_at
-  constructor_law n = both (params_at text) (λ ps us. mark_at mark.Begin us >>= λ _ vs. steps_at text vs >>= λ xs ws. mark_place_at mark.End ws >>= λ e zs. Got (constructor_of n ps xs e) zs) (IsParams text) (λ ps. InBraces (StepsClose (constructor_of n ps))) none none (params_law none)
+  constructor_law n = both (params_at text) (λ ps us. mark_at mark.Begin us >>= λ _ vs. steps_at text vs >>= λ xs ws. mark_place_at mark.End ws >>= λ e zs. Got (constructor_of n ps xs e) zs) (IsParams text) (λ ps. InBraces (StepsClose (constructor_of n ps))) none none ((params_within text none 0).reads)
       (λ ps. led (is_mark mark.Begin) nothing_of (kind.Mark mark.Begin) tt (λ _ vs. steps_at text vs >>= λ xs ws. mark_place_at mark.End ws >>= λ e zs. Got (constructor_of n ps xs e) zs) (λ _. StepsClose (constructor_of n ps)) none (λ _. steps_close_law (constructor_of n ps)))
       (λ ps w k z h a. avoids_none (w ++ k))
 
   method_law : (d : ℕ) (r : Sort) (n : Word) → Reads (method_at text d r n) (MethodLang r n) none
   unfolding method_at
-  method_law d r n = both (params_at text) (λ ps us. mark_at mark.Begin us >>= λ _ vs. clauses_at text d vs >>= λ cs ws. steps_at text ws >>= λ xs ys. return_at text ys >>= λ x bs. mark_place_at mark.End bs >>= λ e zs. Got (method_of r n ps cs xs x e) zs) (IsParams text) (λ ps. InBraces (ClausesTail (method_of r n ps))) none none (params_law none)
+  method_law d r n = both (params_at text) (λ ps us. mark_at mark.Begin us >>= λ _ vs. clauses_at text d vs >>= λ cs ws. steps_at text ws >>= λ xs ys. return_at text ys >>= λ x bs. mark_place_at mark.End bs >>= λ e zs. Got (method_of r n ps cs xs x e) zs) (IsParams text) (λ ps. InBraces (ClausesTail (method_of r n ps))) none none ((params_within text none 0).reads)
       (λ ps. led (is_mark mark.Begin) nothing_of (kind.Mark mark.Begin) tt (λ _ vs. clauses_at text d vs >>= λ cs ws. steps_at text ws >>= λ xs ys. return_at text ys >>= λ x bs. mark_place_at mark.End bs >>= λ e zs. Got (method_of r n ps cs xs x e) zs) (λ _. ClausesTail (method_of r n ps)) none (λ _. clauses_tail_law d (method_of r n ps)))
       (λ ps w k z h a. avoids_none (w ++ k))
 
   code_begins : {B : Type 0} (T : List Param → Lang B) (w : List Token) (x : B) → Then (IsParams text) T w x → Front (is_mark mark.Open) w
-  code_begins T w x h = then_starts (IsParams text) T (is_mark mark.Open) params_begins w x h
+  code_begins T w x h = then_starts (IsParams text) T (is_mark mark.Open) (params_begins text) w x h
 
   abbrev pub FieldLang : Word → Word → Lang Member
   FieldLang c n = Led (is_mark mark.Semicolon) nothing_of (λ _. End (member.Field (record { class = c; name = n })))
@@ -291,7 +182,7 @@ module _ (text : List ℕ) where
   pub plain_law : Reads plain_at PlainLang none
   plain_law = two_ways (is_key key.Void) is_opaque (behind_key key.Void (λ us. Got sort.Void us)) opaque_at (Led (is_key key.Void) nothing_of (λ _. End sort.Void)) OpaqueLang none
       (led (is_key key.Void) nothing_of (kind.Key key.Void) tt (λ _ us. Got sort.Void us) (λ _. End sort.Void) none (λ _. empty sort.Void none))
-      opaque_law (led_starts (is_key key.Void) nothing_of (λ _. End sort.Void)) opaque_begins opaque_no_void
+      (opaque_within 0).reads (led_starts (is_key key.Void) nothing_of (λ _. End sort.Void)) opaque_begins opaque_no_void
 
   plain_begins : (w : List Token) (x : Sort) → PlainLang w x → Front PlainStarts w
   plain_begins w x (inl h) = subst (Front PlainStarts) (sym h.4) (or_left (is_key key.Void h.0.kind) (is_opaque h.0.kind) h.2)
@@ -299,7 +190,7 @@ module _ (text : List ℕ) where
 
   plain_spelled : (w : List Token) (x : Sort) → PlainLang w x → IsResult text w x
   plain_spelled w x (inl h) = subst (IsResult text w) (sym h.3.1) (subst (λ m. IsResult text m sort.Void) (sym (h.4 ∙ ap (λ u. h.0 ∷ u) h.3.0)) (no_result (key_to key.Void h.0 h.2)))
-  plain_spelled w x (inr h) = some_result (opaque_spelled w x h)
+  plain_spelled w x (inr h) = some_result (opaque_spelled text w x h)
 
   a_constructor : (t : Token) (n : Word) (u w : List Token) (z : Member) → IsName text t n → ConstructorLang n u z → w ≡ t ∷ u → IsMember text w z
   a_constructor t n u w z i l e =
@@ -404,7 +295,7 @@ module _ (text : List ℕ) where
     where
       by : (rs : List Token) (r : Sort) → IsResult text rs r → Front member_starts rs
       by rs r (no_result {t = s} h) = or_left (is_key key.Void s.kind) (type_starts s.kind) (key_from key.Void s h)
-      by rs r (some_result {ts = ks} {x = y} h) = front_less type_starts member_starts (λ k f. or_right (is_key key.Void k) (type_starts k) f) ks (type_begins ks y h)
+      by rs r (some_result {ts = ks} {x = y} h) = front_less type_starts member_starts (λ k f. or_right (is_key key.Void k) (type_starts k) f) ks (type_begins text ks y h)
 
   pub members_law : (d : ℕ) → Reads (members_at text d) (Star (IsMember text)) MembersGo
   members_law d = repeated member_starts (member_at text d) (IsMember text) none (member_law d) member_begins (no_none member_starts)

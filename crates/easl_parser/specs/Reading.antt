@@ -4,7 +4,6 @@ use Rattle.easl_model.specs.Lexemes.{is_literal}
 use Rattle.easl_model.specs.declared.place.Place.{Place}
 use Rattle.easl_model.specs.declared.token.Key.TheVariants as key
 use Rattle.easl_model.specs.declared.token.Kind.{Kind}
-use Rattle.easl_model.specs.declared.token.Kind.TheVariants as kind
 use Rattle.easl_model.specs.declared.token.Mark.TheVariants as mark
 use Rattle.easl_model.specs.declared.token.Token.{Token}
 use Rattle.easl_model.specs.declared.tree.Arg.{Arg}
@@ -14,9 +13,6 @@ use Rattle.easl_model.specs.declared.tree.Cond.{Cond}
 use Rattle.easl_model.specs.declared.tree.Cond.TheVariants as cond
 use Rattle.easl_model.specs.declared.tree.Member.{Member}
 use Rattle.easl_model.specs.declared.tree.Member.TheVariants as member
-use Rattle.easl_model.specs.declared.tree.Opaque.{Opaque}
-use Rattle.easl_model.specs.declared.tree.Opaque.TheVariants as opaque
-use Rattle.easl_model.specs.declared.tree.Param.{Param}
 use Rattle.easl_model.specs.declared.tree.Path.{Path}
 use Rattle.easl_model.specs.declared.tree.Sort.{Sort}
 use Rattle.easl_model.specs.declared.tree.Sort.TheVariants as sort
@@ -26,7 +22,8 @@ use Rattle.easl_model.specs.declared.tree.Step.TheVariants as step
 use Rattle.easl_model.specs.declared.tree.Value.{Value}
 use Rattle.easl_model.specs.declared.tree.Value.TheVariants as value
 use Rattle.easl_model.specs.declared.tree.Word.{Word}
-use Rattle.cv_read.specs.Read.{Read, Got, Deep, ◌>>=◌, take_at, choose, is_mark, is_key, is_name, mark_at, key_at, mark_place_at, key_place_at, name_at, literal_at, behind_mark, behind_key, before_mark, step_at, items_at, listed_at, parens_at}
+use Rattle.cv_read.specs.Read.{Read, Got, Deep, ◌>>=◌, choose, is_mark, is_key, is_name, mark_at, key_at, mark_place_at, key_place_at, name_at, literal_at, behind_mark, behind_key, before_mark, step_at, items_at, listed_at, parens_at}
+use Rattle.cv_read.specs.Types.{opaque_at, type_starts, params_at}
 
 -- paths
 abbrev pub field_at : List ℕ → List Token → Read (Option Word)
@@ -170,42 +167,6 @@ return_some text ts = before_mark mark.Semicolon (value_at text) ts >>= λ x us.
 
 unfoldable pub return_at : List ℕ → List Token → Read (Option Value)
 return_at text = choose (is_key key.Return) (behind_key key.Return (return_some text)) (λ ts. Got None ts)
-
--- types and parameters
-abbrev pub is_opaque : Kind → Bool
-is_opaque (kind.Key key.Object) = true
-is_opaque (kind.Key key.Int) = true
-is_opaque (kind.Key key.Boolean) = true
-is_opaque (kind.Key key.String) = true
-is_opaque k = false
-
--- the type that an opaque keyword names
-abbrev pub opaque_in : Kind → Opaque
-opaque_in (kind.Key key.Int) = opaque.Int
-opaque_in (kind.Key key.Boolean) = opaque.Boolean
-opaque_in (kind.Key key.String) = opaque.String
-opaque_in k = opaque.Object
-
-abbrev pub opaque_of : Token → Opaque
-opaque_of t = opaque_in t.kind
-
-abbrev pub opaque_at : List Token → Read Sort
-opaque_at ts = take_at is_opaque opaque_of ts >>= λ o us. Got (sort.Opaque o) us
-
-abbrev pub class_type_at : List ℕ → List Token → Read Sort
-class_type_at text ts = name_at text ts >>= λ w us. Got (sort.Class w) us
-
-abbrev pub type_at : List ℕ → List Token → Read Sort
-type_at text = choose is_opaque opaque_at (class_type_at text)
-
-abbrev pub type_starts : Kind → Bool
-type_starts k = is_name k || is_opaque k
-
-unfoldable pub param_at : List ℕ → List Token → Read Param
-param_at text ts = type_at text ts >>= λ x us. name_at text us >>= λ n vs. Got (record { sort = x; name = n }) vs
-
-unfoldable pub params_at : List ℕ → List Token → Read (List Param)
-params_at text = parens_at (listed_at type_starts (param_at text))
 
 -- a constructor and a method behind their names
 unfoldable pub constructor_at : List ℕ → Word → List Token → Read Member

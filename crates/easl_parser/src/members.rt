@@ -1,15 +1,14 @@
 //! Classes and their members. Where rules begin alike, the common part is read first.
-ghost use Rattle.std.specs.Prelude.{◌≡◌, ◌<◌, ◌≤◌, true, false, length, IfOk, IfSome, IsSome, MatchOption};
-ghost use Rattle.easl_model.specs.declared.tree.Sort.TheVariants as sort;
-ghost use Rattle.cv_read.specs.Read.{Gives, Finds, begins, commas_at, more_at, next_at, listed_at};
-ghost use Rattle.easl_parser.specs.Reading.{is_opaque, opaque_in, opaque_of, type_starts, type_at, class_type_at, param_at, params_at, constructor_at, method_at, behind_two, two_names_at, behind_one, named_member_at, plain_at, opaque_at, plain_method_at, member_at, member_starts, maybe_member_at, members_at, class_at};
+ghost use Rattle.std.specs.Prelude.{◌≡◌, ◌<◌, ◌≤◌, length, IfOk, IsSome};
+ghost use Rattle.cv_read.specs.Read.{Gives, begins};
+ghost use Rattle.easl_parser.specs.Reading.{constructor_at, method_at, behind_two, two_names_at, behind_one, named_member_at, plain_at, plain_method_at, member_at, member_starts, maybe_member_at, members_at, class_at};
 
 use crate::bodies::{clauses, returned, steps};
 use cv_read::{
-    ReadFault, Source, after_key, after_mark, begins_mark, begins_name, front, key, mark, name,
-    next, placed_mark,
+    ReadFault, Source, after_key, after_mark, begins_mark, begins_name, front, is_type_start, key,
+    mark, name, opaque_sort, params, placed_mark,
 };
-use easl_model::{Class, Code, Field, Key, Kind, Mark, Member, Opaque, Param, Sort, Token, Word};
+use easl_model::{Class, Code, Field, Key, Kind, Mark, Member, Sort, Token, Word};
 use sqlite_items::Items;
 
 /// `"class" Name "{" member* "}"`
@@ -73,16 +72,9 @@ fn begins_member(tokens: &[Token]) -> bool
     ensures { result ≡ begins member_starts tokens.now }
 {
     match front(tokens) {
-        Some((kind, _)) => kind == Kind::Key(Key::Void) || is_sort_start(kind),
+        Some((kind, _)) => kind == Kind::Key(Key::Void) || is_type_start(kind),
         None => false,
     }
-}
-
-/// Whether the type of a parameter can begin with a token of this kind.
-fn is_sort_start(kind: Kind) -> bool
-    ensures { result ≡ type_starts kind }
-{
-    kind == Kind::Name || opaque(kind).is_some()
 }
 
 /// `field | constructor | method`
@@ -187,44 +179,6 @@ fn plain(tokens: &[Token]) -> Result<(Sort, &[Token]), ReadFault>
     }
 }
 
-fn opaque_sort(tokens: &[Token]) -> Result<(Sort, &[Token]), ReadFault>
-    ensures reads { Gives result (opaque_at tokens.now) }
-    ensures shorter { IfOk result (λ x. length x.1.now < length tokens.now) }
-{
-    match after_opaque(tokens) {
-        Some((kind, rest)) => Ok((Sort::Opaque(kind), rest)),
-        None => Err(ReadFault::Syntax(tokens.len())),
-    }
-}
-
-/// The opaque type that the first token names, and the tokens after it.
-fn after_opaque(tokens: &[Token]) -> Option<(Opaque, &[Token])>
-    ensures finds { Finds is_opaque opaque_of tokens.now result }
-    ensures shorter { IfSome result (λ x. length x.1.now < length tokens.now) }
-{
-    match next(tokens) {
-        Some((token, rest)) => match opaque(token.kind) {
-            Some(found) => Some((found, rest)),
-            None => None,
-        },
-        None => None,
-    }
-}
-
-/// The opaque type that a token of this kind names.
-fn opaque(kind: Kind) -> Option<Opaque>
-    ensures { MatchOption result (is_opaque kind ≡ false)
-        (λ x. (is_opaque kind ≡ true) × (x ≡ opaque_in kind)) }
-{
-    match kind {
-        Kind::Key(Key::Object) => Some(Opaque::Object),
-        Kind::Key(Key::Int) => Some(Opaque::Int),
-        Kind::Key(Key::Boolean) => Some(Opaque::Boolean),
-        Kind::Key(Key::String) => Some(Opaque::String),
-        _ => None,
-    }
-}
-
 /// A constructor behind its name.
 #[tactic(auto, unfolding(crate::specs::Reading::constructor_at))]
 fn constructor<'a>(
@@ -279,125 +233,4 @@ fn method<'a>(
         end,
     };
     Ok((Member::Method(code), rest))
-}
-
-/// `"(" params? ")"`
-#[tactic(auto, unfolding(crate::specs::Reading::params_at))]
-fn params<'a>(
-    source: Source<'_>,
-    tokens: &'a [Token],
-) -> Result<(Items<Param>, &'a [Token]), ReadFault>
-    ensures reads { Gives result (params_at source.entry.text.now tokens.now) }
-    ensures shorter { IfOk result (λ x. length x.1.now < length tokens.now) }
-{
-    let rest = mark(Mark::Open, tokens)?;
-    let (found, rest) = maybe_params(source, rest)?;
-    let rest = mark(Mark::Close, rest)?;
-    Ok((found, rest))
-}
-
-fn maybe_params<'a>(
-    source: Source<'_>,
-    tokens: &'a [Token],
-) -> Result<(Items<Param>, &'a [Token]), ReadFault>
-    ensures reads { Gives result (listed_at type_starts (param_at source.entry.text.now) tokens.now) }
-    ensures shorter { IfOk result (λ x. length x.1.now ≤ length tokens.now) }
-{
-    if begins_param(tokens) {
-        some_params(source, tokens)
-    } else {
-        Ok((Items::new(source.alloc), tokens))
-    }
-}
-
-fn begins_param(tokens: &[Token]) -> bool
-    ensures { result ≡ begins type_starts tokens.now }
-{
-    match front(tokens) {
-        Some((kind, _)) => is_sort_start(kind),
-        None => false,
-    }
-}
-
-/// `param ("," param)*`
-fn some_params<'a>(
-    source: Source<'_>,
-    tokens: &'a [Token],
-) -> Result<(Items<Param>, &'a [Token]), ReadFault>
-    ensures reads { Gives result (commas_at (param_at source.entry.text.now) tokens.now) }
-    ensures shorter { IfOk result (λ x. length x.1.now < length tokens.now) }
-{
-    let mut found = Items::new(source.alloc);
-    let (first, rest) = param(source, tokens)?;
-    let (more, rest) = more_params(source, rest)?;
-    found.push(first)?;
-    found.append(more)?;
-    Ok((found, rest))
-}
-
-/// `("," param)*`
-#[tactic(auto, using(cv_read::proofs::Along::starts, cv_read::proofs::Along::ends, cv_read::proofs::Along::stops, cv_read::proofs::Along::deepens))]
-fn more_params<'a>(
-    source: Source<'_>,
-    tokens: &'a [Token],
-) -> Result<(Items<Param>, &'a [Token]), ReadFault>
-    ensures reads { Gives result (more_at (param_at source.entry.text.now) tokens.now) }
-    ensures shorter { IfOk result (λ x. length x.1.now ≤ length tokens.now) }
-{
-    let mut found = Items::new(source.alloc);
-    let mut rest = tokens;
-    'each: loop {
-        let (item, more) = next_param(source, rest)?;
-        rest = more;
-        match item {
-            Some(item) => found.push(item)?,
-            None => return Ok((found, rest)),
-        }
-    }
-}
-
-fn next_param<'a>(
-    source: Source<'_>,
-    tokens: &'a [Token],
-) -> Result<(Option<Param>, &'a [Token]), ReadFault>
-    ensures reads { Gives result (next_at (param_at source.entry.text.now) tokens.now) }
-    ensures shorter { IfOk result (λ x. length x.1.now ≤ length tokens.now) }
-    ensures takes { IfOk result (λ x. IsSome x.0 → length x.1.now < length tokens.now) }
-{
-    match after_mark(Mark::Comma, tokens) {
-        Some(after) => {
-            let (item, rest) = param(source, after)?;
-            Ok((Some(item), rest))
-        }
-        None => Ok((None, tokens)),
-    }
-}
-
-/// `(opaque | Name) Name`
-#[tactic(auto, unfolding(crate::specs::Reading::param_at))]
-fn param<'a>(source: Source<'_>, tokens: &'a [Token]) -> Result<(Param, &'a [Token]), ReadFault>
-    ensures reads { Gives result (param_at source.entry.text.now tokens.now) }
-    ensures shorter { IfOk result (λ x. length x.1.now < length tokens.now) }
-{
-    let (sort, rest) = param_sort(source, tokens)?;
-    let (name, rest) = name(source, rest)?;
-    Ok((Param { sort, name }, rest))
-}
-
-fn param_sort<'a>(source: Source<'_>, tokens: &'a [Token]) -> Result<(Sort, &'a [Token]), ReadFault>
-    ensures reads { Gives result (type_at source.entry.text.now tokens.now) }
-    ensures shorter { IfOk result (λ x. length x.1.now < length tokens.now) }
-{
-    match after_opaque(tokens) {
-        Some((kind, rest)) => Ok((Sort::Opaque(kind), rest)),
-        None => class_sort(source, tokens),
-    }
-}
-
-fn class_sort<'a>(source: Source<'_>, tokens: &'a [Token]) -> Result<(Sort, &'a [Token]), ReadFault>
-    ensures reads { Gives result (class_type_at source.entry.text.now tokens.now) }
-    ensures shorter { IfOk result (λ x. length x.1.now < length tokens.now) }
-{
-    let (class, rest) = name(source, tokens)?;
-    Ok((Sort::Class(class), rest))
 }

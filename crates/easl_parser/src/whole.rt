@@ -1,8 +1,9 @@
 //! A whole specification: its tokens, its brackets, its syntax.
 ghost use Rattle.std.specs.Prelude.{◌≡◌, ◌<◌, ◌≤◌, length, IfOk, IsSome};
+ghost use Rattle.cv_read.specs.Answers.{Answers, OneAnswer, FindsTree};
 ghost use Rattle.cv_read.specs.Read.{Gives, GivesWhole, whole_at};
+ghost use Rattle.easl_model.specs.Grammar.{IsSpec};
 ghost use Rattle.easl_model.specs.Spelling.{OneTree};
-ghost use Rattle.easl_parser.specs.Answers.{Answers, OneAnswer, FindsSpec};
 ghost use Rattle.easl_parser.specs.Reading.{maybe_class_at, classes_at, spec_at};
 
 use crate::members::class;
@@ -24,7 +25,7 @@ const MOST_CONDITIONS: u32 = 63;
 #[tactic(auto, using(crate::proofs::Theorems::no_tokens, crate::proofs::Theorems::no_text, crate::proofs::Theorems::tree_answers, crate::proofs::Theorems::fault_answers))]
 pub fn read_spec(alloc: Global, text: &[u8]) -> Result<Spec, TextFault>
     requires { length text.now ≤ 65536 }
-    ensures { Answers text.now result }
+    ensures { Answers IsSpec text.now result }
 {
     let tokens = tokens(alloc, text)?;
     let Ok(text) = str::from_utf8(text) else {
@@ -46,13 +47,13 @@ pub fn one_tree()
 /// Reading a text has one answer, want of memory aside.
 #[tactic(auto, using(crate::proofs::Theorems::one_answer))]
 pub fn one_answer()
-    ensures { OneAnswer }
+    ensures { OneAnswer IsSpec }
 {}
 
 /// The specification that all of these tokens spell.
 #[tactic(auto, using(crate::proofs::Theorems::found, crate::proofs::Theorems::too_deep))]
 fn spec(source: Source<'_>, end: Place, tokens: &[Token]) -> Result<Spec, ReadFault>
-    ensures { FindsSpec source.entry.text.now end tokens.now result }
+    ensures { FindsTree IsSpec source.entry.text.now end tokens.now result }
 {
     nesting(tokens)?;
     whole(source, end, tokens)

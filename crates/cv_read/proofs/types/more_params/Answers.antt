@@ -1,8 +1,8 @@
 use Rattle.std.proofs.Common.{refl, ap, ◌∙◌}
 use Rattle.cv_read.specs.Read.{Got, next_at}
 use Rattle.cv_read.proofs.Along.{goes_on}
-use Rattle.easl_parser.specs.Reading.{param_at}
-use Rattle.easl_parser.proofs.members.more_params.Goals as goal
+use Rattle.cv_read.specs.Types.{param_at}
+use Rattle.cv_read.proofs.types.more_params.Goals as goal
 
 pub each-preserved : goal.each-preserved
 each-preserved c =

@@ -1,8 +1,8 @@
 use Rattle.std.proofs.Common.{length}
 use Rattle.cv_read.specs.Read.{next_at}
 use Rattle.cv_read.proofs.Along.{IsAlong}
-use Rattle.easl_parser.specs.Reading.{param_at}
-use Rattle.easl_parser.proofs.members.more_params.Given as goal
+use Rattle.cv_read.specs.Types.{param_at}
+use Rattle.cv_read.proofs.types.more_params.Given as goal
 
 abbrev pub invariant-each : goal.invariant-each
 invariant-each l = IsAlong (next_at (param_at l.source.text.now)) l.fn.tokens l.rest l.found
