@@ -1,0 +1,11 @@
+use Rattle.std.proofs.Common.{refl, ap, ◌∙◌}
+use Rattle.cv_read.specs.Read.{Got}
+use Rattle.cv_read.proofs.Along.{goes_on}
+use Rattle.client_parser.specs.Reading.{maybe_stmt_at}
+use Rattle.client_parser.proofs.statements.+statements.Goals as goal
+
+pub stmts_within-each-preserved : goal.stmts_within-each-preserved
+stmts_within-each-preserved t c =
+    goes_on (maybe_stmt_at c.args.source.text.now c.args.depth) _ _ _ _ _ c.in-Some.item c.each.invariant
+    (c.in_ok-item.ensures.reads ∙ ap (λ f. Got f c.in_ok-item.more.now) c.in-Some.is)
+    (c.in_ok-item.ensures.takes (rw c.in-Some.is refl)) c.in_ok-push-in-Some.ensures.ok

@@ -1,0 +1,11 @@
+//! Reads client programs: from bytes to the tree that they spell.
+#![tactic(auto)]
+
+mod items;
+mod statements;
+#[cfg(test)]
+mod tests;
+mod values;
+mod whole;
+
+pub use whole::{one_answer, one_client, read_client};
