@@ -163,11 +163,14 @@ no_if_by text block = choose (is_key key.While) (behind_key key.While (while_by 
 abbrev pub stmt_by : List ℕ → (List Token → Read (List Stmt)) → List Token → Read Stmt
 stmt_by text block = choose (is_key key.If) (behind_key key.If (if_by text block)) (no_if_by text block)
 
-abbrev pub held_starts : Kind → Bool
-held_starts k = is_key key.New k || type_starts k
+abbrev pub simple_starts : Kind → Bool
+simple_starts k = is_key key.New k || type_starts k
+
+abbrev pub no_if_starts : Kind → Bool
+no_if_starts k = is_key key.While k || simple_starts k
 
 abbrev pub stmt_starts : Kind → Bool
-stmt_starts k = is_key key.If k || is_key key.While k || held_starts k
+stmt_starts k = is_key key.If k || no_if_starts k
 
 abbrev pub maybe_stmt_by : List ℕ → (List Token → Read (List Stmt)) → List Token → Read (Option Stmt)
 maybe_stmt_by text block = step_at stmt_starts (stmt_by text block)

@@ -1,0 +1,129 @@
+use crate::read_client;
+use client_model::{Proc, Rhs, Stmt, Test};
+use cv_lex::{TextFault, Which};
+use easl_model::{Opaque, Place, Sort};
+use std::test::Fail;
+
+const TEXT: &[u8] = b"static Set all = new Set(7, \"k\");
+int count(Set s, boolean b) {
+  Iterator i = s.iterator();
+  String t;
+  t = \"k\";
+  while (i.hasNext()) { i.next(); }
+  if (?) { new Set(); } else { int n = count(s, true); count(s, b); }
+  if (all.isEmpty()) { }
+  return t;
+}
+static Object one = all.get();
+static boolean no = false;
+void main() { return; }
+void end() { }
+";
+
+#[test]
+fn reads_each_rule(rt: HostRuntime) -> Result<(), Fail> {
+    let client = read_client(rt.alloc(), TEXT)?;
+    assert_eq!(rt; client.end, Place { line: 15, col: 1 });
+    assert!(rt;
+        matches!(
+            client.order.as_slice(),
+            [true, false, true, true, false, false]
+        )
+    );
+    let [all, one, no] = client.statics.as_slice() else {
+        assert!(rt; false, "three statics");
+        return Ok(());
+    };
+    assert_eq!(rt; all.name.place, Place { line: 1, col: 12 });
+    assert!(rt; matches!(&all.value, Rhs::New(new) if new.args.len() == 2));
+    assert!(rt; matches!(&one.value, Rhs::Component(call) if call.method.name.0.as_str() == "get"));
+    assert!(rt; matches!(&no.value, Rhs::Copy(word) if word.name.0.as_str() == "false"));
+    let [count, main, end] = client.procedures.as_slice() else {
+        assert!(rt; false, "three procedures");
+        return Ok(());
+    };
+    assert!(rt; is_count(count));
+    assert!(rt; matches!(main.result, Sort::Void));
+    assert!(rt; matches!(&main.last, Some(last) if last.value.is_none()));
+    assert!(rt; end.last.is_none());
+    Ok(())
+}
+
+fn is_count(procedure: &Proc) -> bool {
+    procedure.params.len() == 2
+        && matches!(procedure.result, Sort::Opaque(Opaque::Int))
+        && matches!(&procedure.last, Some(last) if last.value.is_some())
+        && procedure.end == (Place { line: 10, col: 1 })
+        && matches!(
+            procedure.body.as_slice(),
+            [
+                Stmt::Declare(Sort::Class(_), _, Some(Rhs::Component(_))),
+                Stmt::Declare(Sort::Opaque(Opaque::String), _, None),
+                Stmt::Assign(_, Rhs::Copy(_)),
+                Stmt::While(Test::Call(_), body),
+                Stmt::If(Test::Free(_), first, second, true),
+                Stmt::If(Test::Call(_), third, fourth, false),
+            ] if is_step(body.as_slice())
+                && is_made(first.as_slice())
+                && is_called(second.as_slice())
+                && third.is_empty()
+                && fourth.is_empty()
+        )
+}
+
+fn is_step(body: &[Stmt]) -> bool {
+    matches!(body, [Stmt::Do(Rhs::Component(_))])
+}
+
+fn is_made(body: &[Stmt]) -> bool {
+    matches!(body, [Stmt::Do(Rhs::New(_))])
+}
+
+fn is_called(body: &[Stmt]) -> bool {
+    matches!(
+        body,
+        [
+            Stmt::Declare(Sort::Opaque(Opaque::Int), _, Some(Rhs::Call(_))),
+            Stmt::Do(Rhs::Call(_))
+        ]
+    )
+}
+
+#[test]
+fn reads_the_empty_text(rt: HostRuntime) -> Result<(), Fail> {
+    let client = read_client(rt.alloc(), b"")?;
+    assert!(rt; client.order.is_empty());
+    Ok(())
+}
+
+#[test]
+fn names_the_first_wrong_token(rt: HostRuntime) -> Result<(), Fail> {
+    let read = read_client(rt.alloc(), b"void main() { a.b() }");
+    assert!(rt; matches!(read, Err(TextFault::Syntax(Place { line: 1, col: 21 }))));
+    let read = read_client(rt.alloc(), b"static A a = f();");
+    assert!(rt; matches!(read, Err(TextFault::Syntax(Place { line: 1, col: 15 }))));
+    let read = read_client(rt.alloc(), b"void main() { return; f(); }");
+    assert!(rt; matches!(read, Err(TextFault::Syntax(Place { line: 1, col: 23 }))));
+    let read = read_client(rt.alloc(), b"void main() {");
+    assert!(rt; matches!(read, Err(TextFault::Syntax(Place { line: 1, col: 14 }))));
+    Ok(())
+}
+
+#[test]
+fn refuses_a_65th_open_bracket(rt: HostRuntime) -> Result<(), Fail> {
+    let mut text = Vec::new(rt.alloc());
+    text.extend_from_slice(b"void main() {")?;
+    for _ in 0..63 {
+        text.extend_from_slice(b"if (?) {")?;
+    }
+    assert!(rt; text.len() == 517);
+    let read = read_client(rt.alloc(), text.as_slice());
+    let end = Place { line: 1, col: 518 };
+    assert!(rt; matches!(read, Err(TextFault::Syntax(at)) if at == end));
+    text.extend_from_slice(b"if (?) {")?;
+    assert!(rt; text.len() == 525);
+    let read = read_client(rt.alloc(), text.as_slice());
+    let place = Place { line: 1, col: 521 };
+    assert!(rt; matches!(read, Err(TextFault::Limit(Which::Nesting, at)) if at == place));
+    Ok(())
+}

@@ -23,6 +23,7 @@ const MOST_BODIES: u32 = 64;
 /// tokens of the form that is built so far, `Limit` of nesting at the bracket that makes a 65th open one, `Syntax`
 /// where the tokens before the place begin a client and with the next one begin none, or at the end of the text.
 /// `Memory` comes where none is found.
+#[tactic(auto, using(crate::proofs::Theorems::no_tokens, crate::proofs::Theorems::no_text, crate::proofs::Theorems::tree_answers, crate::proofs::Theorems::fault_answers))]
 pub fn read_client(alloc: Global, text: &[u8]) -> Result<Client, TextFault>
     requires { length text.now ≤ 1048576 }
     ensures { Answers IsClient text.now result }
@@ -39,16 +40,19 @@ pub fn read_client(alloc: Global, text: &[u8]) -> Result<Client, TextFault>
 }
 
 /// Tokens spell at most one client.
+#[tactic(auto, using(crate::proofs::Theorems::one_client))]
 pub fn one_client()
     ensures { OneClient }
 {}
 
 /// Reading a text has one answer, want of memory aside.
+#[tactic(auto, using(crate::proofs::Theorems::one_answer))]
 pub fn one_answer()
     ensures { OneAnswer IsClient }
 {}
 
 /// The client that all of these tokens spell.
+#[tactic(auto, using(crate::proofs::Theorems::found, crate::proofs::Theorems::too_deep))]
 fn client(source: Source<'_>, end: Place, tokens: &[Token]) -> Result<Client, ReadFault>
     ensures { FindsTree IsClient source.entry.text.now end tokens.now result }
 {
