@@ -1,6 +1,6 @@
 -- Readers that read a language which closes what it opens, and go too deep only where too many brackets stand: how
 -- they compose.
-use Rattle.std.proofs.Common.{ℕ, suc, ◌+◌, ◌<◌, Bool, List, [], ◌++◌, arith}
+use Rattle.std.proofs.Common.{ℕ, suc, Bool, List, [], ◌++◌, arith}
 use Rattle.easl_model.specs.Grammar.{IsListed}
 use Rattle.easl_model.specs.declared.token.Kind.{Kind}
 use Rattle.easl_model.specs.declared.token.Kind.TheVariants as kind
@@ -9,7 +9,7 @@ use Rattle.easl_model.specs.declared.token.Mark.TheVariants as mark
 use Rattle.easl_model.specs.declared.token.Token.{Token}
 use Rattle.cv_read.specs.Read.{Read, Got, ◌>>=◌, take_at, choose, is_mark, nothing_of, behind_mark, before_mark, step_at, items_at, listed_at, parens_at}
 use Rattle.cv_read.proofs.Depth.{Even, Bounded, bounded_both, bounded_choose, bounded_take, bounded_got, bounded_bracket, bounded_items}
-use Rattle.cv_read.proofs.Laws.{Lang, Is, either, Avoids, Front, Sub, Apart, Reads, Then, Mapped, One, Or, End, both, one, mapped, empty, respell, widen, choice}
+use Rattle.cv_read.proofs.Laws.{Lang, Is, either, Avoids, Front, Sub, Apart, Reads, Then, Mapped, One, Or, End, both, one, mapped, empty, respell, choice}
 use Rattle.cv_read.proofs.Levels.{Flat, Opens, Closes, Falls, falls_one, falls_mapped, falls_then, even_from, even_end, even_one, even_mapped, even_then, even_or, even_led, even_closed, even_star, even_listed, even_opened, even_parens, begin_opens, end_closes, falls_closed, bounded_mapped, bounded_led, bounded_closed, bounded_parens, bounded_listed}
 use Rattle.cv_read.proofs.Repeats.{Star, ListGoes, listed_law, repeated}
 use Rattle.cv_read.proofs.Words.{Led, Closed, Parens, led, closed, parens, two_ways, or_nothing}
@@ -54,9 +54,6 @@ module _ {A : Type 0} {r : List Token → Read A} {S : Lang A} {G : Kind → Boo
     even = even_from S T from within.even;
     bound = within.bound;
   }
-
-  pub widen_within : (H : Kind → Bool) → Sub G H → ReadsWithin r S G d → ReadsWithin r S H d
-  widen_within H sub within = record { reads = widen r S G H sub within.reads; even = within.even; bound = within.bound }
 
   pub both_within : {B : Type 0} {f : A → List Token → Read B} {T : A → Lang B} {H : Kind → Bool} → ReadsWithin r S G d → ((x : A) → ReadsWithin (f x) (T x) H d) → ((x : A) (w k : List Token) (z : B) → T x w z → Avoids H k → Avoids G (w ++ k)) → ReadsWithin (λ ts. r ts >>= f) (Then S T) H d
   both_within {f = f} {T = T} {H = H} first second follow = record {
