@@ -15,7 +15,7 @@ use Rattle.easl_heap.proofs.Counting.{called-steps, value-later}
 body_fits : (form : Form) (m : Method) (slots : List ℕ) → MethodKeepsLimits form m → length slots ≤ 5 → Fits slots m.body
 body_fits form m slots k few = record { room = omega (arith, k.written); arguments = k.body }
 
-body_found : (form : Form) (n : ℕ) (m : Method) → slice_get form.methods n ≡ Some m → body_of form n ≡ statements_of m.body
+pub body_found : (form : Form) (n : ℕ) (m : Method) → slice_get form.methods n ≡ Some m → body_of form n ≡ statements_of m.body
 body_found form n m there = rw there
 
 -- a construction, one deeper
@@ -50,13 +50,13 @@ returned-later : (form : Form) (depth : ℕ) (source : Option Source) (m : Momen
 returned-later form depth None m = omega arith
 returned-later form depth (Some v) m = omega (arith, value-later form depth v (counted m))
 
-body_called : (form : Form) (n : ℕ) (m : Method) (args : List ℕ) (heap : List Object) → slice_get form.methods n ≡ Some m → body form n args heap ≡ called form m args heap
+pub body_called : (form : Form) (n : ℕ) (m : Method) (args : List ℕ) (heap : List Object) → slice_get form.methods n ≡ Some m → body form n args heap ≡ called form m args heap
 body_called form n m args heap there = rw there
 
-constructor_called : (form : Form) (m : Method) (args : List ℕ) (heap : List Object) → m.constructor ≡ true → called form m args heap ≡ made form (length form.classes) m.class args heap 0
+pub constructor_called : (form : Form) (m : Method) (args : List ℕ) (heap : List Object) → m.constructor ≡ true → called form m args heap ≡ made form (length form.classes) m.class args heap 0
 constructor_called form m args heap is_constructor = rw is_constructor
 
-method_called : (form : Form) (m : Method) (args : List ℕ) (heap : List Object) → m.constructor ≡ false → called form m args heap ≡ returned (made form (length form.classes)) m.value (run (made form (length form.classes)) (statements_of m.body) (moment heap args 0))
+pub method_called : (form : Form) (m : Method) (args : List ℕ) (heap : List Object) → m.constructor ≡ false → called form m args heap ≡ returned (made form (length form.classes)) m.value (run (made form (length form.classes)) (statements_of m.body) (moment heap args 0))
 method_called form m args heap is_method = rw is_method
 
 few_arguments : (form : Form) (n : ℕ) (m : Method) (args : List ℕ) → slice_get form.methods n ≡ Some m → HasArguments form n args → length args ≡ argument_count m

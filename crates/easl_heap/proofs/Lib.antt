@@ -1,5 +1,15 @@
 pub mod Called
+pub mod Calls
+pub mod Chains
+pub mod Classes
 pub mod Counting
 pub mod Depth
+pub mod FormFields
+pub mod FullHeaps
 pub mod Places
+pub mod Runs
+pub mod Steps
+pub mod Typed
 pub mod Underway
+pub mod Whole
+pub mod Writes

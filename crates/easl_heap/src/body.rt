@@ -1,5 +1,6 @@
 //! Bodies, executed statement by statement. A constructor that is called is executed in place on its fresh object.
 ghost use Rattle.std.specs.Prelude.{◌≡◌, ◌+◌, ◌-◌, ◌^◌, ◌<◌, ◌≤◌, [], ◌∷◌, ◌++◌, All, length, map, slice_set, vec_len, vec_capacity, IfSome};
+ghost use Rattle.easl_model.specs.Checked.{IsChecked};
 ghost use Rattle.easl_model.specs.Form.{ActInRange, SourceInRange};
 ghost use Rattle.easl_model.specs.Limits.{ActHasFewArguments, HasFewArguments};
 ghost use Rattle.easl_model.specs.Statements.{statement_of, statements_of};
@@ -38,6 +39,7 @@ pub fn execute(objects: &mut Vec<Object>, spec: &CheckedSpec, method: u32, args:
     ensures grows { Grows 1 objects.old 0 objects.new result.steps }
     ensures body { outcome objects.new.items result.result result.steps
         ≡ told.body spec.now method args.now objects.old.items }
+    ensures checked { IsChecked spec.now }
 {
     let called = spec.method(method);
     let depth = spec.class_count();

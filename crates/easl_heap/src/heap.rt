@@ -29,7 +29,8 @@ const MOST_OBJECTS: usize = 1025;
 
 impl Heap {
     ghost use Rattle.std.specs.Prelude.{◌≡◌, ◌+◌, ◌^◌, ◌<◌, ◌≤◌, [], length, slice_get, IfOk, OnOk, OnErr};
-    ghost use Rattle.easl_heap.specs.Heap.{get};
+    ghost use Rattle.easl_heap.specs.Heap.{get, IsFull};
+    ghost use Rattle.easl_heap.specs.Full.{AreOfClasses, GivesClass, KeepsClasses};
     ghost use Rattle.easl_heap.specs.Clause as told;
     ghost use Rattle.easl_heap.specs.Body.{outcome, body, HasArguments};
 
@@ -69,7 +70,8 @@ impl Heap {
     }
 
     /// Executes the method's body, and answers the object that it gives, else 0, with the number of statements that
-    /// were executed. `Memory` comes before the first change, and leaves the heap as it was.
+    /// were executed. `Memory` comes before the first change, and leaves the heap as it was. On a full heap, with
+    /// arguments of the classes that the method takes, it leaves a full heap, and gives an object of the result's class.
     pub fn execute_body(
         &mut self,
         spec: &CheckedSpec,
@@ -83,6 +85,9 @@ impl Heap {
         ensures err { OnErr result (self.new ≡ self.old) }
         ensures grown { length self.new ≤ length self.old + 1025 }
         ensures steps { IfOk result (λ d. d.steps ≤ 1024) }
+        ensures kept { KeepsClasses self.old self.new }
+        ensures full { IsFull spec.now self.old → AreOfClasses spec.now method self.old args.now
+            → IfOk result (λ d. IsFull spec.now self.new × GivesClass spec.now method self.new d.result) }
     {
         if self.objects.reserve(MOST_OBJECTS).is_err() {
             return Err(Memory);

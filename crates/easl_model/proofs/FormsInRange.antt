@@ -1,16 +1,17 @@
 -- The form of a well-formed tree within the limits is in range.
 use Rattle.std.proofs.Common.{rules, inl, inr, ◌≡◌, ℕ, zero, suc, ◌+◌, ◌*◌, ◌<◌, ◌≤◌, ◌≢◌, List, [], ◌∷◌, All, length, map, get_or, arith, refl, ap, sym, subst, length-append}
-use Rattle.std.specs.Prelude.{Contains, Bool, true, false, Option, Some, None, IfSome, slice_get, ◌⊎◌}
+use Rattle.std.specs.Prelude.{Bool, true, false, Option, Some, None, IfSome, slice_get, ◌⊎◌}
 use Rattle.std.specs.List.{AllZip}
 use Rattle.std.specs.Option.{option_map}
 use Rattle.std.proofs.lemmas.List.{length-map}
 use Rattle.std.proofs.lemmas.List.Elements.{All-nil, All-cons, All-append, All-head, All-tail}
 use Rattle.std.proofs.lemmas.Option.{slice_get_within, get_or_from_slice_get, slice_get-get_or}
 use Rattle.std.proofs.lemmas.Slice.Zip.{AllZip-long}
+use Rattle.easl_model.proofs.Standing.{contains_at, item_at}
 use Rattle.easl_model.specs.Bodies.{Body, bodies_in, bodies_from, bodies_of, constructor_body, constructor_or_implicit, method_body}
 use Rattle.easl_model.specs.BodyRules.{HasValue, Calls}
 use Rattle.easl_model.specs.BodyRules as body_rules
-use Rattle.easl_model.specs.Checked.{IsInRange}
+use Rattle.easl_model.specs.Checked.{IsChecked, IsInRange}
 use Rattle.easl_model.specs.Form.{Form, ActInRange, ClassInRange, MethodInRange, SourceInRange}
 use Rattle.easl_model.specs.FormOf.{AreActsOf, AreClassesOf, IsActOf, IsArgumentOf, IsClassOf, IsFormOf, IsMethodOf, IsResultOf, IsReturnOf, IsSourceOf, IsTestOf}
 use Rattle.easl_model.specs.Limits.{ActHasFewArguments, HasFewArguments, MethodKeepsLimits, count_in_place}
@@ -41,7 +42,7 @@ use Rattle.easl_model.specs.declared.tree.Value.{Value}
 use Rattle.easl_model.specs.declared.tree.Value.TheVariants as value
 
 -- what holds of each item holds of the one at a place
-all_at : {X : Type 0} (P : X → Type 0) (xs : List X) (k : ℕ) (x : X) → All P xs → slice_get xs k ≡ Some x → P x
+pub all_at : {X : Type 0} (P : X → Type 0) (xs : List X) (k : ℕ) (x : X) → All P xs → slice_get xs k ≡ Some x → P x
 all_at P xs k x all there =
     let e = get_or_from_slice_get xs k x x there in rw e at (all k x (slice_get_within xs k x there))
 
@@ -56,7 +57,7 @@ found_within f [] n y there = absurd (cc)
 found_within f (x ∷ xs) zero y there = omega arith
 found_within f (x ∷ xs) (suc n) y there = omega (arith, found_within f xs n y there)
 
-class_within : (spec : Spec) (name : List ℕ) (n : ℕ) → IsClass spec name n → n < length spec.classes
+pub class_within : (spec : Spec) (name : List ℕ) (n : ℕ) → IsClass spec name n → n < length spec.classes
 class_within spec name n is = found_within (λ (c : Class). c.name.name) spec.classes n name is
 
 sort_within : (spec : Spec) (s : Sort) (o : Option ℕ) → IsSort spec s o → IfSome o (λ n. n < length spec.classes)
@@ -72,7 +73,7 @@ pub record IsSmall (code : Code) : Type 0 where
   pub statements : length code.body ≤ 64
 
 small : (code : Code) → CodeIsWithin code → IsSmall code
-small code w = record { params = w.params; clauses = w.clauses; statements = w.statements }
+small code w = record { params = w.params; clauses = w.clauses; statements = omega (arith, w.statements) }
 
 -- the constructor of a class, and its methods
 constructor_small : (c : Class) (ms : List Member) → All CodeIsWithin (codes_in ms) → IsSmall (constructor_or_implicit c (constructor_in ms))
@@ -120,7 +121,7 @@ bodies_few n (c ∷ cs) within =
     omega (arith, length-append (bodies_in n c) (bodies_from (suc n) cs), length-map (methods_in c.members) (method_body n), w.methods)
 
 -- the classes
-classes_count : (spec : Spec) (n : ℕ) (cs : List Class) (forms : List ClassForm) → AreClassesOf spec n cs forms → length forms ≡ length cs
+pub classes_count : (spec : Spec) (n : ℕ) (cs : List Class) (forms : List ClassForm) → AreClassesOf spec n cs forms → length forms ≡ length cs
 classes_count spec n [] [] are = refl
 classes_count spec n [] (f ∷ forms) are = absurd are
 classes_count spec n (c ∷ cs) [] are = absurd are
@@ -202,40 +203,32 @@ acts_have_few spec b n (x ∷ xs) (a ∷ acts) few are =
     (act_has_few spec (scope_at b n) x a are.0.0 (All-head (λ x. FewIn spec (value_of x)) x xs few) are.0.1)
     (acts_have_few spec b (suc n) xs acts (All-tail (λ x. FewIn spec (value_of x)) x xs few) are.1)
 
-acts_count : (spec : Spec) (b : Body) (n : ℕ) (xs : List Step) (acts : List Act) → AreActsOf spec b n xs acts → length acts ≡ length xs
+pub acts_count : (spec : Spec) (b : Body) (n : ℕ) (xs : List Step) (acts : List Act) → AreActsOf spec b n xs acts → length acts ≡ length xs
 acts_count spec b n [] [] are = refl
 acts_count spec b n [] (a ∷ acts) are = absurd are
 acts_count spec b n (x ∷ xs) [] are = absurd are
 acts_count spec b n (x ∷ xs) (a ∷ acts) are = ap suc (acts_count spec b (suc n) xs acts are.1)
 
-same_or_not : (n m : ℕ) → (n ≡ m) ⊎ (n ≢ m)
+pub same_or_not : (n m : ℕ) → (n ≡ m) ⊎ (n ≢ m)
 same_or_not zero zero = inl refl
 same_or_not zero (suc m) = inr (λ e. omega arith)
 same_or_not (suc n) zero = inr (λ e. omega arith)
 same_or_not (suc n) (suc m) = elim (same_or_not n m) [ inl e ↦ inl (ap suc e) | inr other ↦ inr (λ e. other (omega arith)) ]
 
-most_or_more : (n m : ℕ) → (n ≤ m) ⊎ (m < n)
+pub most_or_more : (n m : ℕ) → (n ≤ m) ⊎ (m < n)
 most_or_more zero m = inl (omega arith)
 most_or_more (suc n) zero = inr (omega arith)
 most_or_more (suc n) (suc m) = elim (most_or_more n m) [ inl e ↦ inl (omega arith) | inr e ↦ inr (omega arith) ]
 
-contains_at : {X : Type 0} (xs : List X) (k : ℕ) (x : X) → slice_get xs k ≡ Some x → Contains xs x
-contains_at xs k x there = (k, slice_get_within xs k x there, get_or_from_slice_get xs k x x there)
-
-all_from_places : {X : Type 0} (P : X → Type 0) (xs : List X) → ((k : ℕ) (x : X) → slice_get xs k ≡ Some x → P x) → All P xs
+pub all_from_places : {X : Type 0} (P : X → Type 0) (xs : List X) → ((k : ℕ) (x : X) → slice_get xs k ≡ Some x → P x) → All P xs
 all_from_places P xs each k d within = each k (get_or xs k d) (slice_get-get_or xs k d within)
 
-zip_at : {A B : Type 0} (R : A → B → Type 0) (xs : List A) (ys : List B) (k : ℕ) (y : B) → AllZip R xs ys → slice_get ys k ≡ Some y → (x : A) × (slice_get xs k ≡ Some x) × R x y
+pub zip_at : {A B : Type 0} (R : A → B → Type 0) (xs : List A) (ys : List B) (k : ℕ) (y : B) → AllZip R xs ys → slice_get ys k ≡ Some y → (x : A) × (slice_get xs k ≡ Some x) × R x y
 zip_at R [] [] k y zip there = absurd (cc)
 zip_at R [] (z ∷ ys) k y zip there = absurd zip
 zip_at R (x ∷ xs) [] k y zip there = absurd zip
 zip_at R (x ∷ xs) (z ∷ ys) zero y zip there = (x, refl, subst (R x) (let e : z ≡ y = cc in e) zip.0)
 zip_at R (x ∷ xs) (z ∷ ys) (suc k) y zip there = zip_at R xs ys k y zip.1 there
-
-item_at : {X : Type 0} (xs : List X) (k : ℕ) → k < length xs → (x : X) × (slice_get xs k ≡ Some x)
-item_at [] k within = absurd (omega arith)
-item_at (x ∷ xs) zero within = (x, refl)
-item_at (x ∷ xs) (suc k) within = item_at xs k (omega arith)
 
 class_found : (spec : Spec) (name : List ℕ) (n : ℕ) → IsClass spec name n → (c : Class) × (slice_get spec.classes n ≡ Some c)
 class_found spec name n is = item_at spec.classes n (class_within spec name n is)
@@ -340,3 +333,12 @@ form_in_range spec form formed within is =
           let found = zip_at (IsMethodOf spec) (bodies_of spec) form.methods k m is.methods at in
           method_keeps_limits spec form k found.0 m formed within is found.1 at (all_at (BodyFits (length spec.classes)) (bodies_of spec) k found.0 bodies found.1) found.2);
     }
+
+pub checked_in_range : (form : Form) → IsChecked form → IsInRange form
+checked_in_range form checked = form_in_range checked.tree form checked.well_formed checked.limits checked.form_of
+
+-- the parts of a checked form, put together
+pub put_together : (classes classes' : List ClassForm) (methods methods' : List Method) → classes' ≡ classes → methods' ≡ methods → IsChecked (record { classes = classes; methods = methods }) → IsChecked (record { classes = classes'; methods = methods' }) × IsInRange (record { classes = classes'; methods = methods' })
+put_together classes classes' methods methods' same same_methods checked =
+    let moved : IsChecked (record { classes = classes'; methods = methods' }) = subst (λ cs. IsChecked (record { classes = cs; methods = methods' })) (sym same) (subst (λ ms. IsChecked (record { classes = classes; methods = ms })) (sym same_methods) checked) in
+    (moved, checked_in_range (record { classes = classes'; methods = methods' }) moved)

@@ -51,11 +51,12 @@ IsNoClass spec w = (class : ℕ) → IsClass spec w.name class → ⊥
 abbrev pub HasNoField : Spec → ℕ → Word → Type 0
 HasNoField spec class w = All (λ f. f.name.name ≢ w.name) (fields_in (members_of spec class))
 
--- a class, the head of a path or a field is not there
+-- a class, the head of a path or a field is not there; an opaque variable has no fields
 pub data HasUnknown (spec : Spec) (b : Body) : Place → Type 0 where
   local_class : (n : ℕ) (class name : Word) (v : Value) → slice_get b.code.body n ≡ Some (Declare class name v) → IsNoClass spec class → HasUnknown spec b class.place
   made_class : (n : ℕ) (new : New) → HasValue b.code n (value.New new) → IsNoClass spec new.class → HasUnknown spec b new.class.place
   head : (n : ℕ) (path : Path) (w : Word) → HasPath b.code n path → path.head ≡ Some w → IsNoVariable (scope_at b n) w.name → HasNoField spec b.class w → HasUnknown spec b w.place
+  field_of_opaque : (n : ℕ) (path : Path) (w : Word) (after : List Word) (slot : ℕ) (first : List ℕ) → HasPath b.code n path → Begins spec (scope_at b n) path.head slot first None → path.fields ≡ w ∷ after → HasUnknown spec b w.place
   field : (n : ℕ) (path : Path) (before after : List Word) (w : Word) (r : Reach) (class : ℕ) → HasPath b.code n path → path.fields ≡ before ++ w ∷ after → Reaches spec (scope_at b n) (record path { fields = before }) r class → HasNoField spec class w → HasUnknown spec b w.place
 
 abbrev pub first_token : Value → Place
@@ -100,7 +101,6 @@ pub data HasMismatch (spec : Spec) (b : Body) : Place → Type 0 where
   opaque_side : (left right path : Path) → HasComparison b.code left right → Contains (left ∷ right ∷ []) path → IsOpaque spec (scope_at b 0) path → HasMismatch spec b path.place
   opaque_value : (n : ℕ) (path : Path) → HasValue b.code n (value.Path path) → IsOpaque spec (scope_at b n) path → HasMismatch spec b path.place
   opaque_target : (n : ℕ) (path : Path) (v : Value) → slice_get b.code.body n ≡ Some (Assign path v) → IsOpaque spec (scope_at b n) path → HasMismatch spec b path.place
-  field_of_opaque : (n : ℕ) (path : Path) (slot : ℕ) (first : List ℕ) → HasPath b.code n path → Begins spec (scope_at b n) path.head slot first None → path.fields ≢ [] → HasMismatch spec b path.place
   this_assigned : (n : ℕ) (path : Path) (v : Value) → slice_get b.code.body n ≡ Some (Assign path v) → path.head ≡ None → path.fields ≡ [] → HasMismatch spec b path.place
   arguments : (n : ℕ) (new : New) (code : Code) → HasValue b.code n (value.New new) → Calls spec new code → length new.args ≢ length code.params → HasMismatch spec b new.place
   no_return : (of : ℕ) → IsSort spec b.code.result (Some of) → b.code.value ≡ None → HasMismatch spec b b.code.name.place

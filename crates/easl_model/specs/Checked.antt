@@ -1,7 +1,32 @@
 -- What every checked form keeps.
-use Rattle.std.specs.Prelude.{◌≤◌, All, length}
+use Rattle.std.specs.Prelude.{ℕ, ◌≤◌, List, All, length}
+use Rattle.easl_model.specs.Brackets.{Shallow}
 use Rattle.easl_model.specs.Form.{Form, ClassInRange, MethodInRange}
+use Rattle.easl_model.specs.FormOf.{IsFormOf}
+use Rattle.easl_model.specs.Grammar.{IsSpec}
 use Rattle.easl_model.specs.Limits.{MethodKeepsLimits}
+use Rattle.easl_model.specs.Rules.{IsWellFormed}
+use Rattle.easl_model.specs.Tokens.{AreTokens}
+use Rattle.easl_model.specs.TreeLimits.{IsWithinLimits}
+use Rattle.easl_model.specs.declared.token.Tokens.{Tokens}
+use Rattle.easl_model.specs.declared.tree.Spec.{Spec}
+
+-- the whole text spells the tree, with at most 64 brackets unclosed at once
+pub record Spells (text : List ℕ) (spec : Spec) : Type 0 where
+  pub tokens : Tokens
+  pub cut : AreTokens text tokens
+  pub shallow : Shallow tokens.list
+  pub spelled : IsSpec text tokens.end tokens.list spec
+
+-- the form is that of a well-formed tree within the limits, which some text within its limit spells
+pub record IsChecked (form : Form) : Type 0 where
+  pub text : List ℕ
+  pub tree : Spec
+  pub few_bytes : length text ≤ 65536
+  pub spells : Spells text tree
+  pub well_formed : IsWellFormed tree
+  pub limits : IsWithinLimits tree
+  pub form_of : IsFormOf tree form
 
 -- each number of a class or a method names one that is there, and the stated limits are kept
 pub record IsInRange (form : Form) : Type 0 where

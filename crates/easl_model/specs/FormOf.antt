@@ -1,5 +1,5 @@
 -- The checked form of a tree: the same tree with numbers in place of names.
-use Rattle.std.specs.Prelude.{◌≡◌, ℕ, suc, true, false, List, [], ◌∷◌, ◌++◌, Bool, Option, Some, None, map, slice_get, length}
+use Rattle.std.specs.Prelude.{◌≡◌, ℕ, suc, ◌<◌, true, false, List, [], ◌∷◌, ◌++◌, Bool, Option, Some, None, map, slice_get, length}
 use Rattle.std.specs.List.{AllZip}
 use Rattle.easl_model.specs.Bodies.{Body, bodies_of, constructor_body}
 use Rattle.easl_model.specs.Clauses.{Clause, Clauses, clause_of}
@@ -62,13 +62,13 @@ IsSourceOf spec scope (value.Path path) (source.Make made args) class = ⊥
 IsSourceOf spec scope (value.New new) (source.Reach r) class = ⊥
 IsSourceOf spec scope (value.New new) (source.Make made args) class = (made ≡ class) × IsClass spec new.class.name class × AllZip (IsArgumentOf spec scope) new.args args
 
--- what is assigned: the slot of a variable, or the last field to which the path leads
+-- what is assigned: the slot of a variable, which is not that of `this`, or the last field to which the path leads
 abbrev pub IsActOf : Spec → Scope → Step → Act → ℕ → Type 0
 IsActOf spec scope (Declare name local v) (act.Local s) class = IsClass spec name.name class × IsSourceOf spec scope v s class
 IsActOf spec scope (Declare name local v) (act.Change slot s) class = ⊥
 IsActOf spec scope (Declare name local v) (act.Write target field s) class = ⊥
 IsActOf spec scope (Assign path v) (act.Local s) class = ⊥
-IsActOf spec scope (Assign path v) (act.Change slot s) class = Reaches spec scope path (record { slot = slot; fields = [] }) class × IsSourceOf spec scope v s class
+IsActOf spec scope (Assign path v) (act.Change slot s) class = Reaches spec scope path (record { slot = slot; fields = [] }) class × IsSourceOf spec scope v s class × (0 < slot)
 IsActOf spec scope (Assign path v) (act.Write target field s) class = Reaches spec scope path (record { slot = target.slot; fields = target.fields ++ field ∷ [] }) class × IsSourceOf spec scope v s class
 
 -- the acts are the body's statements, from this one on

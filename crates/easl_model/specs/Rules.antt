@@ -36,6 +36,11 @@ pub data IsDuplicate (spec : Spec) : Place → Type 0 where
   constructor : (c : Class) (n : ℕ) (code : Code) → Contains spec.classes c → slice_get (constructors_in c.members) (suc n) ≡ Some code → IsDuplicate spec code.name.place
   parameter : (c : Class) (code : Code) (w : Word) → Contains spec.classes c → Contains (codes_in c.members) code → IsSecond (map (λ p. p.name) code.params) w → IsDuplicate spec w.place
 
+-- nothing is named a second time, in headers or in bodies
+pub record NamesDiffer (spec : Spec) : Type 0 where
+  pub headers : (p : Place) → IsDuplicate spec p → ⊥
+  pub locals : (b : Body) (p : Place) → Contains (bodies_of spec) b → HasDuplicate b p → ⊥
+
 -- the type of a field, a parameter or a result
 pub data HasType (c : Class) : Word → Type 0 where
   field : (f : Field) → Contains (fields_in c.members) f → HasType c f.class

@@ -1,5 +1,5 @@
 -- The stated limits on a tree.
-use Rattle.std.specs.Prelude.{ℕ, ◌+◌, ◌≤◌, All, length}
+use Rattle.std.specs.Prelude.{ℕ, ◌+◌, ◌≤◌, All, length, option_to_list}
 use Rattle.easl_model.specs.BodyRules.{HasPath}
 use Rattle.easl_model.specs.Clauses.{Clause, Clauses, clause_of, none, more}
 use Rattle.easl_model.specs.Clauses as written
@@ -20,11 +20,15 @@ abbrev mutual
   comparisons_in none = 0
   comparisons_in (more c cs) = comparison_count c + comparisons_in cs
 
+-- the statements that are written, a `return` among them
+abbrev pub written_count : Code → ℕ
+written_count code = length code.body + length (option_to_list code.value)
+
 pub record CodeIsWithin (code : Code) : Type 0 where
   pub params : length code.params ≤ 4
   pub clauses : length code.clauses ≤ 16
   pub comparisons : All (λ cond. comparison_count (clause_of cond) ≤ 16) code.clauses
-  pub statements : length code.body ≤ 64
+  pub statements : written_count code ≤ 64
   pub paths : (n : ℕ) (path : Path) → HasPath code n path → length path.fields ≤ 6
 
 pub record ClassIsWithin (c : Class) : Type 0 where

@@ -3,7 +3,8 @@ use crate::place::Name;
 use sqlite_items::Items;
 use std::marker::Model;
 
-/// A checked specification, which contracts see as its checked form.
+/// A checked specification, which contracts see as its checked form: the form of a well-formed tree within the limits,
+/// which some text spells.
 #[derive(Debug, Drop)]
 pub struct CheckedSpec {
     classes: Items<ClassForm>,
@@ -11,7 +12,7 @@ pub struct CheckedSpec {
 }
 
 impl Model for CheckedSpec {
-    ghost use Rattle.easl_model.specs.Checked.{IsInRange};
+    ghost use Rattle.easl_model.specs.Checked.{IsChecked, IsInRange};
     ghost use Rattle.easl_model.specs.Form.{Form};
     ghost use Rattle.easl_model.specs.contracts.form.Test as test;
     ghost use Rattle.std.specs.Coded.{codes};
@@ -22,19 +23,20 @@ impl Model for CheckedSpec {
 
     ghost view = { λ s. record { classes = s.classes; methods = s.methods } };
 
-    ghost invariant = { λ s. IsInRange (record { classes = s.classes; methods = s.methods }) };
+    ghost invariant = { λ s. IsChecked (record { classes = s.classes; methods = s.methods })
+        × IsInRange (record { classes = s.classes; methods = s.methods }) };
 }
 
 impl CheckedSpec {
-    ghost use Rattle.std.specs.Prelude.{◌≡◌, ◌<◌, ◌≤◌, length, slice_index, slice_get};
+    ghost use Rattle.std.specs.Prelude.{◌≡◌, ◌<◌, ◌≤◌, true, IfSome, length, slice_index, slice_get};
     ghost use Rattle.std.specs.Option.{option_map};
-    ghost use Rattle.easl_model.specs.Checked.{IsInRange};
+    ghost use Rattle.easl_model.specs.Checked.{IsChecked, IsInRange};
     ghost use Rattle.easl_model.specs.Form.{Form, MethodInRange, fields_of, constructor_of, field_names_of};
     ghost use Rattle.easl_model.specs.Limits.{MethodKeepsLimits};
 
     /// A specification of these parts, the classes and the methods by number. It takes no memory.
     pub fn new(classes: Vec<ClassForm>, methods: Vec<Method>) -> CheckedSpec
-        requires { IsInRange (record { classes = classes.items; methods = methods.items }) }
+        requires { IsChecked (record { classes = classes.items; methods = methods.items }) }
         ensures { result ≡ record { classes = classes.items; methods = methods.items } }
     {
         CheckedSpec {
@@ -43,9 +45,18 @@ impl CheckedSpec {
         }
     }
 
+    /// Does nothing: its contract says what every checked specification keeps.
+    pub fn is_kept(&self)
+        ensures checked { IsChecked self.now }
+        ensures in_range { IsInRange self.now }
+    {
+        let _ = &self.classes;
+    }
+
     pub fn class_count(&self) -> u32
         ensures count { result ≡ length self.now.classes }
         ensures in_range { IsInRange self.now }
+        ensures checked { IsChecked self.now }
     {
         self.classes.len() as u32
     }
@@ -95,6 +106,7 @@ impl CheckedSpec {
         requires { class < length self.now.classes }
         ensures number { result ≡ constructor_of self.now class }
         ensures in_range { result < length self.now.methods }
+        ensures constructs { IfSome (slice_get self.now.methods result) (λ m. m.constructor ≡ true) }
     {
         self.classes.as_slice()[class as usize].constructor
     }
@@ -104,6 +116,7 @@ impl CheckedSpec {
         ensures value { slice_get self.now.methods method ≡ Some result.now }
         ensures in_range { MethodInRange (length self.now.classes) result.now }
         ensures limits { MethodKeepsLimits self.now result.now }
+        ensures checked { IsChecked self.now }
     {
         &self.methods.as_slice()[method as usize]
     }

@@ -10,7 +10,7 @@ mod tree;
 
 pub use checked::CheckedSpec;
 pub use form::{Act, ClassForm, Method, Reach, Source, Test};
-pub use laws::forms_are_in_range;
+pub use laws::{forms_are_in_range, one_form};
 pub use place::{Name, Place};
 pub use token::{Key, Kind, Mark, Token, Tokens};
 pub use tree::{

@@ -19,3 +19,15 @@ impl Model for Name {
 
     ghost view = { λ n. chars (string_bytes n.0) };
 }
+
+impl Name {
+    ghost use Rattle.std.specs.Prelude.{◌≡◌, ◌≢◌, false, IsTrue};
+
+    /// Whether two names are one.
+    pub fn is_same(&self, other: &Name) -> bool
+        ensures same { IsTrue result → self.now ≡ other.now }
+        ensures other { result ≡ false → self.now ≢ other.now }
+    {
+        self.0.as_str() == other.0.as_str()
+    }
+}
