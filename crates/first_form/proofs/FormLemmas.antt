@@ -6,14 +6,15 @@ use Rattle.std.proofs.lemmas.List.{append_assoc, drop_more, take_more, take_all,
 use Rattle.std.proofs.lemmas.Slice.Zip.{AllZip-long}
 use Rattle.easl_model.specs.Bodies.{bodies_in, bodies_from, bodies_of, constructor_body, method_body}
 use Rattle.easl_model.specs.Form.{Form}
+use Rattle.easl_model.specs.Arguments.{ArgumentsFit}
 use Rattle.easl_model.specs.FormOf.{AreClassesOf, IsClassOf, IsFormOf, IsMethodOf}
 use Rattle.easl_model.specs.Names.{IsClass, fields_in, methods_in}
 use Rattle.easl_model.specs.declared.form.ClassForm.{ClassForm}
 use Rattle.easl_model.specs.declared.form.Method.{Method}
 use Rattle.easl_model.specs.declared.tree.Class.{Class}
 use Rattle.easl_model.specs.declared.tree.Spec.{Spec}
-use Rattle.first_form.specs.Parts.{IsGrown}
-use Rattle.first_form.proofs.ListLemmas.{stands_next}
+use Rattle.first_form.specs.Parts.{IsBuilt, IsGrown}
+use Rattle.first_form.proofs.ListLemmas.{stands_next, zip_left, zip_weaker}
 use Rattle.first_form.proofs.MethodLemmas.{zip_append}
 
 bodies_split : (n : ℕ) (cs ds : List Class) → bodies_from n (cs ++ ds) ≡ bodies_from n cs ++ bodies_from (n + length cs) ds
@@ -28,14 +29,14 @@ next_taken : (cs : List Class) (i : ℕ) (c : Class) → i < length cs → c ≡
 next_taken cs i c within is = ap (λ x. take i cs ++ x ∷ []) is ∙ sym (take_more cs i c within)
 
 -- the methods of one class more
-pub methods_more : (spec : Spec) (cs : List Class) (i : ℕ) (c : Class) (old new : List Method) → i < length cs → c ≡ get_or cs i c → AllZip (IsMethodOf spec) (bodies_from 0 (take i cs)) old → IsGrown spec i c c.members old new → AllZip (IsMethodOf spec) (bodies_from 0 (take (i + 1) cs)) new
+pub methods_more : (spec : Spec) (cs : List Class) (i : ℕ) (c : Class) (old new : List Method) → i < length cs → c ≡ get_or cs i c → AllZip (IsBuilt spec) (bodies_from 0 (take i cs)) old → IsGrown spec i c c.members old new → AllZip (IsBuilt spec) (bodies_from 0 (take (i + 1) cs)) new
 methods_more spec cs i c old new within is before grown =
     let few : 0 + length (take i cs) ≡ i = omega (arith, length-take i cs) in
     let one : bodies_from (0 + length (take i cs)) (c ∷ []) ≡ bodies_in i c = append-nil (bodies_in (0 + length (take i cs)) c) ∙ ap (λ k. bodies_in k c) few in
     let bodies : bodies_from 0 (take i cs) ++ bodies_in i c ≡ bodies_from 0 (take (i + 1) cs) =
     ap (λ bs. bodies_from 0 (take i cs) ++ bs) (sym one) ∙ sym (bodies_split 0 (take i cs) (c ∷ [])) ∙ ap (bodies_from 0) (next_taken cs i c within is) in
-    rw grown.added (subst (λ bs. AllZip (IsMethodOf spec) bs (old ++ grown.constructor ∷ grown.others)) bodies
-    (zip_append (IsMethodOf spec) (bodies_from 0 (take i cs)) (bodies_in i c) old (grown.constructor ∷ grown.others) before (grown.constructor_is, grown.others_are)))
+    rw grown.added (subst (λ bs. AllZip (IsBuilt spec) bs (old ++ grown.constructor ∷ grown.others)) bodies
+    (zip_append (IsBuilt spec) (bodies_from 0 (take i cs)) (bodies_in i c) old (grown.constructor ∷ grown.others) before (grown.constructor_is, grown.others_are)))
 
 classes_push : (spec : Spec) (n : ℕ) (cs : List Class) (forms : List ClassForm) (c : Class) (f : ClassForm) → AreClassesOf spec n cs forms → IsClassOf spec (n + length cs) c f → AreClassesOf spec n (cs ++ c ∷ []) (forms ++ f ∷ [])
 classes_push spec n [] [] c f are is = (subst (λ k. IsClassOf spec k c f) (let e : n + 0 ≡ n = omega arith in e) is, tt)
@@ -57,10 +58,10 @@ constructor_there spec i c within is =
     (stands_next (bodies_from 0 (take i cs)) (map (method_body i) (methods_in c.members) ++ bodies_from (suc i) rest) (constructor_body i c))
 
 -- the classes with one more
-pub classes_more : (spec : Spec) (i : ℕ) (c : Class) (forms : List ClassForm) (old : List Method) (f : ClassForm) → i < length spec.classes → c ≡ get_or spec.classes i c → AreClassesOf spec 0 (take i spec.classes) forms → AllZip (IsMethodOf spec) (bodies_from 0 (take i spec.classes)) old → f.name ≡ c.name.name → f.field_names ≡ map (λ x. x.name.name) (fields_in c.members) → AllZip (λ x of. IsClass spec x.class.name of) (fields_in c.members) f.field_classes → f.constructor ≡ length old → AreClassesOf spec 0 (take (i + 1) spec.classes) (forms ++ f ∷ [])
+pub classes_more : (spec : Spec) (i : ℕ) (c : Class) (forms : List ClassForm) (old : List Method) (f : ClassForm) → i < length spec.classes → c ≡ get_or spec.classes i c → AreClassesOf spec 0 (take i spec.classes) forms → AllZip (IsBuilt spec) (bodies_from 0 (take i spec.classes)) old → f.name ≡ c.name.name → f.field_names ≡ map (λ x. x.name.name) (fields_in c.members) → AllZip (λ x of. IsClass spec x.class.name of) (fields_in c.members) f.field_classes → f.constructor ≡ length old → AreClassesOf spec 0 (take (i + 1) spec.classes) (forms ++ f ∷ [])
 classes_more spec i c forms old f within is are methods name named typed made =
     let few : i ≡ 0 + length (take i spec.classes) = omega (arith, length-take i spec.classes) in
-    let number : length (bodies_from 0 (take i spec.classes)) ≡ f.constructor = sym (AllZip-long (IsMethodOf spec) (bodies_from 0 (take i spec.classes)) old methods) ∙ sym made in
+    let number : length (bodies_from 0 (take i spec.classes)) ≡ f.constructor = sym (AllZip-long (IsBuilt spec) (bodies_from 0 (take i spec.classes)) old methods) ∙ sym made in
     let form : IsClassOf spec i c f = record {
       name = name;
       field_names = named;
@@ -71,10 +72,17 @@ classes_more spec i c forms old f within is are methods name named typed made =
     (classes_push spec 0 (take i spec.classes) forms c f are (subst (λ k. IsClassOf spec k c f) few form))
 
 -- and all
-pub form_is : (spec : Spec) (done : ℕ) (form : Form) → length spec.classes ≤ done → AreClassesOf spec 0 (take done spec.classes) form.classes → AllZip (IsMethodOf spec) (bodies_from 0 (take done spec.classes)) form.methods → IsFormOf spec form
+pub form_is : (spec : Spec) (done : ℕ) (form : Form) → length spec.classes ≤ done → AreClassesOf spec 0 (take done spec.classes) form.classes → AllZip (IsBuilt spec) (bodies_from 0 (take done spec.classes)) form.methods → IsFormOf spec form
 form_is spec done form past classes methods =
     let all = take_all done spec.classes past in
     record {
       classes = subst (λ cs. AreClassesOf spec 0 cs form.classes) all classes;
-      methods = subst (λ cs. AllZip (IsMethodOf spec) (bodies_from 0 cs) form.methods) all methods;
+      methods = zip_weaker (IsBuilt spec) (IsMethodOf spec) (λ b m built. built.method) (bodies_of spec) form.methods (subst (λ cs. AllZip (IsBuilt spec) (bodies_from 0 cs) form.methods) all methods);
     }
+
+-- each construction in a body has the arguments that its constructor takes
+pub arguments_fit : (spec : Spec) (done : ℕ) (methods : List Method) → length spec.classes ≤ done → AllZip (IsBuilt spec) (bodies_from 0 (take done spec.classes)) methods → ArgumentsFit spec
+arguments_fit spec done methods past built b n new code there has calls =
+    let all = take_all done spec.classes past in
+    let found = zip_left (IsBuilt spec) (bodies_of spec) methods b (subst (λ cs. AllZip (IsBuilt spec) (bodies_from 0 cs) methods) all built) there in
+    found.1.arguments n new code has calls

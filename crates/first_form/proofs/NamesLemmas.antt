@@ -1,11 +1,7 @@
 -- Names and what they stand for.
-use Rattle.std.proofs.Common.{◌≡◌, ℕ, suc, ◌+◌, ◌<◌, List, [], ◌∷◌, drop, length, get_or, arith, refl, ap, sym, ◌∙◌}
-use Rattle.std.proofs.lemmas.Bool.{eq-eqb}
+use Rattle.std.proofs.Common.{◌≡◌, ℕ, suc, ◌+◌, ◌<◌, List, ◌∷◌, drop, length, get_or, arith, refl, ap, sym, ◌∙◌}
 use Rattle.std.proofs.lemmas.List.{drop_more}
-use Rattle.std.specs.Cmp.Lexicographic.{pointwise}
-use Rattle.std.proofs.Math.Utf8.{encodes}
-use Rattle.std.proofs.lemmas.Str.{encodes-chars}
-use Rattle.std.specs.Prelude.{true, nat_eq, Some, slice_get, IsUtf8, chars}
+use Rattle.std.specs.Prelude.{Some, slice_get}
 use Rattle.easl_model.specs.Names.{fields_in}
 use Rattle.easl_model.specs.declared.tree.Field as tree
 use Rattle.easl_model.specs.declared.tree.Member.{Member}
@@ -41,12 +37,3 @@ other_passed members count fields (Constructor code) passed within is no_field =
 other_passed members count fields (Method code) passed within is no_field = record {
   rest = λ k. sym (ap (λ ms. slice_get (fields_in ms) k) (next_is members count (Method code) within is)) ∙ passed.rest k;
 }
-
--- texts of the same characters are the same
-pub same_text : (left right : List ℕ) → IsUtf8 left → IsUtf8 right → chars left ≡ chars right → left ≡ right
-same_text left right left_text right_text same =
-    sym (encodes-chars left left_text) ∙ ap encodes same ∙ encodes-chars right right_text
-
-pub same_bytes : (bytes : List ℕ) → pointwise nat_eq bytes bytes ≡ true
-same_bytes [] = refl
-same_bytes (b ∷ bytes) = rw (eq-eqb b b refl) (same_bytes bytes)

@@ -11,18 +11,33 @@ pub enum FormFault {
 }
 
 impl From<AllocError> for FormFault {
+    ghost use Rattle.std.specs.Prelude.{◌≡◌};
+    ghost use Rattle.first_form.specs.declared.form_fault.FormFault.{FormFault};
+
+    ghost from_gives = { λ _ fault. fault ≡ FormFault.Memory };
+
     fn from(_: AllocError) -> FormFault {
         FormFault::Memory
     }
 }
 
 impl<T: Drop> From<AllocFailed<T>> for FormFault {
+    ghost use Rattle.std.specs.Prelude.{◌≡◌};
+    ghost use Rattle.first_form.specs.declared.form_fault.FormFault.{FormFault};
+
+    ghost from_gives = { λ _ fault. fault ≡ FormFault.Memory };
+
     fn from(_: AllocFailed<T>) -> FormFault {
         FormFault::Memory
     }
 }
 
 impl From<TextFault> for FormFault {
+    ghost use Rattle.std.specs.Prelude.{◌≡◌};
+    ghost use Rattle.first_form.specs.Refusals.{fault_of};
+
+    ghost from_gives = { λ of fault. fault ≡ fault_of of };
+
     fn from(fault: TextFault) -> FormFault {
         match fault {
             TextFault::Memory => FormFault::Memory,

@@ -2,6 +2,8 @@
 #![tactic(auto)]
 
 mod form_fault;
+mod headers;
+mod limits;
 mod methods;
 mod names;
 mod shape;
@@ -9,5 +11,4 @@ mod specification;
 mod values;
 
 pub use form_fault::FormFault;
-pub use names::is_same;
 pub use specification::specification as read_specification;

@@ -1,92 +1,83 @@
 //! Reads and checks a specification of the form that is built so far.
-ghost use Rattle.std.specs.Prelude.{◌≡◌, ◌≤◌, length, IfOk};
+ghost use Rattle.std.specs.Prelude.{◌≡◌, ◌≤◌, ◌↔◌, All, Contains, IfErr, IfOk, IsErrOf, IsTrue, length};
+ghost use Rattle.easl_model.specs.Arguments.{ArgumentsFit};
 ghost use Rattle.easl_model.specs.FormOf.{IsFormOf};
+ghost use Rattle.easl_model.specs.Rules.{IsDuplicate, IsTooLong, IsWellFormed};
+ghost use Rattle.easl_model.specs.TreeLimits.{IsWithinLimits};
+ghost use Rattle.easl_model.specs.declared.place.Place.{Place};
 ghost use Rattle.easl_model.specs.declared.tree.Spec as declared;
-ghost use Rattle.first_form.specs.Parts.{FieldsInRange, HasFields, IsShort};
+ghost use Rattle.first_form.specs.FirstForm.{IsFirstClass, IsFirstForm};
+ghost use Rattle.first_form.specs.Parts.{HasFields, IsShaped};
+ghost use Rattle.first_form.specs.Refusals.{Because, HasFault};
+ghost use Rattle.first_form.specs.declared.form_fault.FormFault.{FormFault};
 
 use crate::form_fault::FormFault;
+use crate::headers::{has_distinct_names, has_named_constructors};
+use crate::limits::is_within_limits;
 use crate::methods::methods_of;
-use crate::names::{class_number, copied, is_same, param_of};
-use crate::shape::{has_plain_clauses, is_shaped};
+use crate::names::{class_number, copied};
+use crate::shape::{has_plain_clauses, is_first};
 use cv_lex::tokens;
-use easl_model::{CheckedSpec, Class, ClassForm, Member, Method, Spec};
+use easl_model::{CheckedSpec, Class, ClassForm, Member, Method, Spec, Token};
 use easl_parser::read_spec;
 use sqlite_items::Items;
 use std::alloc::Global;
 
-const MOST_CLASSES: usize = 64;
-
-const MOST_FIELDS: usize = 16;
-
 /// Reads and checks the specification that the text spells. `NotBuilt` comes where the text is not of the form.
 pub fn specification(alloc: Global, text: &[u8]) -> Result<CheckedSpec, FormFault>
     requires { length text.now ≤ 65536 }
-    ensures { IfOk result (λ form. (tree : declared.Spec) × IsFormOf tree form) }
+    ensures taken { IfOk result (λ form. (tree : declared.Spec) × IsFirstForm text.now tree × IsFormOf tree form) }
+    ensures refused { IsErrOf result FormFault.NotBuilt → (tree : declared.Spec)
+        → IsFirstForm text.now tree → ⊥ }
 {
     let spec = read_spec(alloc, text)?;
     let tokens = tokens(alloc, text)?;
-    if !has_plain_clauses(tokens.list.as_slice())
-        || !is_shaped(&spec)
-        || !has_distinct_names(&spec)
-        || spec.classes.len() > MOST_CLASSES
-    {
+    if !is_shaped(tokens.list.as_slice(), &spec) {
         return Err(FormFault::NotBuilt);
     }
-    checked(alloc, &spec)
+    let parts = checked(alloc, &spec)?;
+    Ok(CheckedSpec::new(parts.classes, parts.methods))
 }
 
-/// Whether no two classes have one name, no two fields of a class, no two methods, no two parameters.
-fn has_distinct_names(spec: &Spec) -> bool {
-    let classes = spec.classes.as_slice();
-    classes.iter().enumerate().all(|(at, class)| {
-        class_number(spec, &class.name.name) == u32::try_from(at).ok()
-            && members_are_distinct(class.members.as_slice())
-    })
-}
-
-fn members_are_distinct(members: &[Member]) -> bool {
-    members.iter().enumerate().all(|(at, member)| {
-        members.iter().position(|other| is_rival(other, member)) == Some(at)
-            && params_are_distinct(member)
-    })
-}
-
-/// Whether two members are of one sort and one name.
-fn is_rival(left: &Member, right: &Member) -> bool {
-    match (left, right) {
-        (Member::Field(left), Member::Field(right)) => is_same(&left.name.name, &right.name.name),
-        (Member::Method(left), Member::Method(right)) => is_same(&left.name.name, &right.name.name),
-        (Member::Constructor(_), Member::Constructor(_)) => true,
-        _ => false,
-    }
-}
-
-fn params_are_distinct(member: &Member) -> bool {
-    match member {
-        Member::Field(_) => true,
-        Member::Constructor(code) | Member::Method(code) => {
-            let params = code.params.as_slice();
-            params.iter().enumerate().all(|(at, param)| param_of(params, &param.name.name)
-                == Some(at))
-        }
-    }
-}
-
-/// The checked form of the classes and their methods.
-fn checked(alloc: Global, spec: &Spec) -> Result<CheckedSpec, FormFault>
-    requires few { length spec.now.classes ≤ 64 }
-    requires short { IsShort spec.now }
-    ensures { IfOk result (IsFormOf spec.now) }
+/// Whether the tokens and the tree that they spell are of the form, as far as no name in a body needs to be resolved.
+fn is_shaped(tokens: &[Token], spec: &Spec) -> bool
+    ensures { IsTrue result ↔ IsShaped tokens.now spec.now }
 {
-    let mut forms = Vec::new(alloc);
+    has_plain_clauses(tokens)
+        && is_first(spec)
+        && is_within_limits(spec)
+        && has_distinct_names(spec)
+        && has_named_constructors(spec)
+}
+
+/// The classes and the methods of a checked form, by number.
+#[derive(Drop)]
+struct Parts {
+    classes: Vec<ClassForm>,
+    methods: Vec<Method>,
+}
+
+/// The checked form of the classes and their methods. `NotBuilt` comes only where a rule is broken.
+fn checked(alloc: Global, spec: &Spec) -> Result<Parts, FormFault>
+    requires first { All (IsFirstClass spec.now) spec.now.classes }
+    requires limits { IsWithinLimits spec.now }
+    requires distinct { (p : Place) → IsDuplicate spec.now p → ⊥ }
+    ensures form { IfOk result (λ x. IsFormOf spec.now (record { classes = x.classes.items; methods = x.methods.items })) }
+    ensures arguments { IfOk result (λ x. ArgumentsFit spec.now) }
+    ensures short { IfOk result (λ x. (p : Place) → IsTooLong spec.now p → ⊥) }
+    ensures fault { IfErr result (λ e. Because e (HasFault spec.now)) }
+    ensures refused { IsErrOf result FormFault.NotBuilt → IsWellFormed spec.now → IsWithinLimits spec.now
+        → All (IsFirstClass spec.now) spec.now.classes → ⊥ }
+{
+    let mut classes = Vec::new(alloc);
     let mut methods = Vec::new(alloc);
     'each: for class in spec.classes.as_slice() {
-        let number = forms.len() as u32;
+        let number = classes.len() as u32;
         let constructor = methods.len() as u32;
         methods_of(alloc, spec, number, class, &mut methods)?;
-        forms.push(class_form(alloc, spec, class, constructor)?)?;
+        classes.push(class_form(alloc, spec, class, constructor)?)?;
     }
-    Ok(CheckedSpec::new(forms, methods))
+    Ok(Parts { classes, methods })
 }
 
 /// A class whose constructor has this number.
@@ -96,9 +87,11 @@ fn class_form(
     class: &Class,
     constructor: u32,
 ) -> Result<ClassForm, FormFault>
-    ensures fields { IfOk result (FieldsInRange (length spec.now.classes)) }
+    requires few { length spec.now.classes ≤ 64 }
+    requires class { Contains spec.now.classes class.now }
     ensures made { IfOk result (λ c. c.constructor ≡ constructor) }
     ensures written { IfOk result (HasFields spec.now class.now) }
+    ensures refused { IfErr result (λ e. Because e (HasFault spec.now)) }
 {
     let mut field_names = Items::new(alloc);
     let mut field_classes = Items::new(alloc);
@@ -110,9 +103,6 @@ fn class_form(
             field_names.push(copied(alloc, &field.name.name)?)?;
             field_classes.push(found)?;
         }
-    }
-    if field_classes.len() > MOST_FIELDS {
-        return Err(FormFault::NotBuilt);
     }
     Ok(ClassForm {
         name: copied(alloc, &class.name.name)?,

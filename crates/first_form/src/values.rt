@@ -1,46 +1,50 @@
 //! Paths and values of a specification, with numbers for their names.
-ghost use Rattle.std.specs.Prelude.{◌≡◌, ◌≢◌, ◌<◌, ◌≤◌, ◌+◌, [], length, slice_get, All, IfOk, IfSome, IsTrue, None, Some};
+ghost use Rattle.std.specs.Prelude.{◌≡◌, ◌≢◌, ◌<◌, length, slice_get, All, IfErr, IfNone, IfOk, IfSome, Some};
 ghost use Rattle.std.specs.Option.{option_map, option_to_list};
-ghost use Rattle.easl_model.specs.Form.{SourceInRange};
-ghost use Rattle.easl_model.specs.Limits.{HasFewArguments};
 ghost use Rattle.std.specs.List.{AllZip};
+ghost use Rattle.easl_model.specs.Arguments.{TakesArgument};
 ghost use Rattle.easl_model.specs.FormOf.{IsArgumentOf, IsSourceOf};
-ghost use Rattle.easl_model.specs.Scopes.{Begins, IsOpaque, Reaches};
+ghost use Rattle.easl_model.specs.Scopes.{Begins, Reaches};
 ghost use Rattle.easl_model.specs.declared.tree.Value.TheVariants as value;
-ghost use Rattle.first_form.specs.Parts.{IsShort, scope_of};
+ghost use Rattle.first_form.specs.Parts.{ArgumentsFitIn, GivesArgument, IsTarget, Keeps, scope_of};
+ghost use Rattle.first_form.specs.Refusals.{ArgumentIsRefused, ArgumentsAreRefused, Because, HeadIsUnknown, IsUnknownArgument, PathIsRefused, PathIsUnknown, ValueIsRefused};
 
 use crate::form_fault::FormFault;
-use crate::names::{class_number, constructor_of, field_of, param_of, sort_class};
+use crate::names::{class_number, field_of, param_of, params_of, sort_class};
 use easl_model::{Arg, New, Param, Path, Reach, Source, Spec, Value, Word};
 use sqlite_items::Items;
 use std::alloc::{AllocError, Global};
 
 /// Where a body stands: its class and its parameters.
 #[derive(Clone, Copy)]
-pub struct Scope<'a> {
+pub(crate) struct Scope<'a> {
     pub spec: &'a Spec,
     pub class: u32,
     pub params: &'a [Param],
 }
 
-/// What a path begins with: a slot, the field that its head names where it names one, and their class.
+/// What a path begins with: a slot, the field that its head names where it names one, and their class, None where
+/// the head is opaque.
 #[derive(Clone, Copy, Debug, PartialEq, Eq)]
 struct Start {
     slot: u32,
     field: Option<u32>,
-    class: u32,
+    class: Option<u32>,
 }
 
-/// The head of a path. It is not of the form where the name is not there, or opaque.
-fn head(scope: Scope<'_>, path: &Path) -> Result<Start, FormFault>
-    ensures { IfOk result (λ s. Begins scope.entry.spec.now (scope_of scope.entry.class scope.entry.params.now)
-        path.now.head s.slot (option_to_list s.field) (Some s.class)) }
+/// The head of a path. None says that nothing known stands for it.
+fn head(scope: Scope<'_>, path: &Path) -> Option<Start>
+    requires { Keeps scope.spec.now scope.params.now }
+    ensures begins { IfSome result (λ s. Begins scope.entry.spec.now (scope_of scope.entry.class scope.entry.params.now)
+        path.now.head s.slot (option_to_list s.field) s.class) }
+    ensures unknown { IfNone result (HeadIsUnknown scope.entry.spec.now
+        (scope_of scope.entry.class scope.entry.params.now) path.now.head) }
 {
     let Some(word) = &path.head else {
-        return Ok(Start {
+        return Some(Start {
             slot: 0,
             field: None,
-            class: scope.class,
+            class: Some(scope.class),
         });
     };
     match param_of(scope.params, &word.name) {
@@ -49,48 +53,79 @@ fn head(scope: Scope<'_>, path: &Path) -> Result<Start, FormFault>
     }
 }
 
-fn param_head(scope: Scope<'_>, word: &Word, at: usize) -> Result<Start, FormFault>
+fn param_head(scope: Scope<'_>, word: &Word, at: usize) -> Option<Start>
+    requires keeps { Keeps scope.spec.now scope.params.now }
     requires at { at < length scope.params.now }
     requires named { option_map (λ p. p.name.name) (slice_get scope.params.now at) ≡ Some word.now.name }
-    ensures { IfOk result (λ s. Begins scope.entry.spec.now (scope_of scope.entry.class scope.entry.params.now)
-        (Some word.now) s.slot (option_to_list s.field) (Some s.class)) }
+    ensures begins { IfSome result (λ s. Begins scope.entry.spec.now (scope_of scope.entry.class scope.entry.params.now)
+        (Some word.now) s.slot (option_to_list s.field) s.class) }
+    ensures unknown { IfNone result (HeadIsUnknown scope.entry.spec.now
+        (scope_of scope.entry.class scope.entry.params.now) (Some word.now)) }
 {
-    let Some(Some(class)) = sort_class(scope.spec, &scope.params[at].sort) else {
+    let class = sort_class(scope.spec, &scope.params[at].sort)?;
+    Some(Start {
+        slot: at as u32 + 1,
+        field: None,
+        class,
+    })
+}
+
+fn field_head(scope: Scope<'_>, word: &Word) -> Option<Start>
+    requires keeps { Keeps scope.spec.now scope.params.now }
+    requires none { All (λ p. p.name.name ≢ word.now.name) scope.params.now }
+    ensures begins { IfSome result (λ s. Begins scope.entry.spec.now (scope_of scope.entry.class scope.entry.params.now)
+        (Some word.now) s.slot (option_to_list s.field) s.class) }
+    ensures unknown { IfNone result (HeadIsUnknown scope.entry.spec.now
+        (scope_of scope.entry.class scope.entry.params.now) (Some word.now)) }
+{
+    let (position, class) = field_of(scope.spec, scope.class, &word.name)?;
+    Some(Start {
+        slot: 0,
+        field: Some(position),
+        class: Some(class),
+    })
+}
+
+/// What a path leads to, and its class; None where it is an opaque variable. It is not of the form where a name is
+/// not there.
+fn target(alloc: Global, scope: Scope<'_>, path: &Path) -> Result<Option<(Reach, u32)>, FormFault>
+    requires { Keeps scope.spec.now scope.params.now }
+    ensures leads { IfOk result (IsTarget scope.entry.spec.now
+        (scope_of scope.entry.class scope.entry.params.now) path.now) }
+    ensures refused { IfErr result (λ e. Because e (PathIsUnknown scope.entry.spec.now
+        (scope_of scope.entry.class scope.entry.params.now) path.now)) }
+{
+    let Some(start) = head(scope, path) else {
         return Err(FormFault::NotBuilt);
     };
-    match u32::try_from(at) {
-        Ok(at) if at < u32::MAX => Ok(Start {
-            slot: at + 1,
-            field: None,
-            class,
-        }),
-        _ => Err(FormFault::NotBuilt),
-    }
+    let Some(class) = start.class else {
+        if path.fields.is_empty() {
+            return Ok(None);
+        }
+        return Err(FormFault::NotBuilt);
+    };
+    let found = along(alloc, scope, path, start, class)?;
+    Ok(Some(found))
 }
 
-fn field_head(scope: Scope<'_>, word: &Word) -> Result<Start, FormFault>
-    requires { All (λ p. p.name.name ≢ word.now.name) scope.params.now }
-    ensures { IfOk result (λ s. Begins scope.entry.spec.now (scope_of scope.entry.class scope.entry.params.now)
-        (Some word.now) s.slot (option_to_list s.field) (Some s.class)) }
+/// What the fields of a path lead to from its head, which is of the class.
+fn along(
+    alloc: Global,
+    scope: Scope<'_>,
+    path: &Path,
+    start: Start,
+    head_class: u32,
+) -> Result<(Reach, u32), FormFault>
+    requires keeps { Keeps scope.spec.now scope.params.now }
+    requires begins { Begins scope.spec.now (scope_of scope.class scope.params.now)
+        path.now.head start.slot (option_to_list start.field) (Some head_class) }
+    ensures leads { IfOk result (λ x. Reaches scope.entry.spec.now
+        (scope_of scope.entry.class scope.entry.params.now) path.now x.0 x.1) }
+    ensures refused { IfErr result (λ e. Because e (PathIsUnknown scope.entry.spec.now
+        (scope_of scope.entry.class scope.entry.params.now) path.now)) }
 {
-    match field_of(scope.spec, scope.class, &word.name) {
-        Some((position, class)) => Ok(Start {
-            slot: 0,
-            field: Some(position),
-            class,
-        }),
-        None => Err(FormFault::NotBuilt),
-    }
-}
-
-/// What a path leads to, and its class. It is not of the form where a name is not there, or the path is opaque.
-pub fn reach(alloc: Global, scope: Scope<'_>, path: &Path) -> Result<(Reach, u32), FormFault>
-    ensures { IfOk result (λ x. Reaches scope.entry.spec.now (scope_of scope.entry.class scope.entry.params.now)
-        path.now x.0 x.1) }
-{
-    let head = head(scope, path)?;
-    let mut fields = first_fields(alloc, head.field)?;
-    let mut class = head.class;
+    let mut fields = first_fields(alloc, start.field)?;
+    let mut class = head_class;
     'each: for word in path.fields.as_slice() {
         let Some((position, next)) = field_of(scope.spec, class, &word.name) else {
             return Err(FormFault::NotBuilt);
@@ -100,7 +135,7 @@ pub fn reach(alloc: Global, scope: Scope<'_>, path: &Path) -> Result<(Reach, u32
     }
     Ok((
         Reach {
-            slot: head.slot,
+            slot: start.slot,
             fields,
         },
         class,
@@ -117,13 +152,34 @@ fn first_fields(alloc: Global, field: Option<u32>) -> Result<Items<u32>, AllocEr
     Ok(fields)
 }
 
+/// The object that a path leads to, and its class. It is not of the form where a name is not there, or the path is
+/// opaque.
+pub(crate) fn reach(alloc: Global, scope: Scope<'_>, path: &Path) -> Result<(Reach, u32), FormFault>
+    requires { Keeps scope.spec.now scope.params.now }
+    ensures leads { IfOk result (λ x. Reaches scope.entry.spec.now
+        (scope_of scope.entry.class scope.entry.params.now) path.now x.0 x.1) }
+    ensures refused { IfErr result (λ e. Because e (PathIsRefused scope.entry.spec.now
+        (scope_of scope.entry.class scope.entry.params.now) path.now)) }
+{
+    match target(alloc, scope, path)? {
+        Some(found) => Ok(found),
+        None => Err(FormFault::NotBuilt),
+    }
+}
+
 /// What a value gives, and its class.
-pub fn source(alloc: Global, scope: Scope<'_>, value: &Value) -> Result<(Source, u32), FormFault>
-    requires { IsShort scope.spec.now }
-    ensures in_range { IfOk result (λ x. SourceInRange (length scope.entry.spec.now.classes) x.0) }
-    ensures few { IfOk result (λ x. HasFewArguments x.0) }
+pub(crate) fn source(
+    alloc: Global,
+    scope: Scope<'_>,
+    value: &Value,
+) -> Result<(Source, u32), FormFault>
+    requires { Keeps scope.spec.now scope.params.now }
     ensures source { IfOk result (λ x. IsSourceOf scope.entry.spec.now
         (scope_of scope.entry.class scope.entry.params.now) value.now x.0 x.1) }
+    ensures fits { IfOk result (λ x. ArgumentsFitIn scope.entry.spec.now
+        (scope_of scope.entry.class scope.entry.params.now) value.now) }
+    ensures refused { IfErr result (λ e. Because e (ValueIsRefused scope.entry.spec.now
+        (scope_of scope.entry.class scope.entry.params.now) value.now)) }
 {
     match value {
         Value::Path(path) => {
@@ -134,22 +190,21 @@ pub fn source(alloc: Global, scope: Scope<'_>, value: &Value) -> Result<(Source,
     }
 }
 
-/// A construction: its class has a constructor of these arguments, or none and there are none.
+/// A construction: its class is there, and its constructor takes these arguments.
 fn made(alloc: Global, scope: Scope<'_>, new: &New) -> Result<(Source, u32), FormFault>
-    requires { IsShort scope.spec.now }
-    ensures in_range { IfOk result (λ x. SourceInRange (length scope.entry.spec.now.classes) x.0) }
-    ensures few { IfOk result (λ x. HasFewArguments x.0) }
+    requires { Keeps scope.spec.now scope.params.now }
     ensures source { IfOk result (λ x. IsSourceOf scope.entry.spec.now
         (scope_of scope.entry.class scope.entry.params.now) (value.New new.now) x.0 x.1) }
+    ensures fits { IfOk result (λ x. ArgumentsFitIn scope.entry.spec.now
+        (scope_of scope.entry.class scope.entry.params.now) (value.New new.now)) }
+    ensures refused { IfErr result (λ e. Because e (ValueIsRefused scope.entry.spec.now
+        (scope_of scope.entry.class scope.entry.params.now) (value.New new.now))) }
 {
     let Some(class) = class_number(scope.spec, &new.class.name) else {
         return Err(FormFault::NotBuilt);
     };
-    let args = new.args.as_slice();
-    let reaches = match constructor_of(scope.spec, class) {
-        Some(code) => arguments(alloc, scope, code.params.as_slice(), args)?,
-        None => arguments(alloc, scope, &[], args)?,
-    };
+    let params = params_of(scope.spec, class);
+    let reaches = arguments(alloc, scope, params, new.args.as_slice())?;
     Ok((Source::Make(class, reaches), class))
 }
 
@@ -160,9 +215,13 @@ fn arguments(
     params: &[Param],
     args: &[Arg],
 ) -> Result<Items<Option<Reach>>, FormFault>
-    ensures count { IfOk result (λ reaches. length reaches ≡ length params.now) }
+    requires { Keeps scope.spec.now scope.params.now }
     ensures each { IfOk result (AllZip (IsArgumentOf scope.entry.spec.now
         (scope_of scope.entry.class scope.entry.params.now)) args.now) }
+    ensures takes { IfOk result (λ x. AllZip (TakesArgument scope.entry.spec.now
+        (scope_of scope.entry.class scope.entry.params.now)) args.now params.now) }
+    ensures refused { IfErr result (λ e. Because e (ArgumentsAreRefused scope.entry.spec.now
+        (scope_of scope.entry.class scope.entry.params.now) args.now params.now)) }
 {
     if params.len() != args.len() {
         return Err(FormFault::NotBuilt);
@@ -181,43 +240,42 @@ fn argument(
     param: &Param,
     arg: &Arg,
 ) -> Result<Option<Reach>, FormFault>
-    ensures { IfOk result (IsArgumentOf scope.entry.spec.now
+    requires { Keeps scope.spec.now scope.params.now }
+    ensures gives { IfOk result (IsArgumentOf scope.entry.spec.now
         (scope_of scope.entry.class scope.entry.params.now) arg.now) }
+    ensures takes { IfOk result (λ x. TakesArgument scope.entry.spec.now
+        (scope_of scope.entry.class scope.entry.params.now) arg.now param.now) }
+    ensures refused { IfErr result (λ e. Because e (ArgumentIsRefused scope.entry.spec.now
+        (scope_of scope.entry.class scope.entry.params.now) arg.now param.now)) }
 {
-    match (sort_class(scope.spec, &param.sort), arg) {
-        (Some(Some(wanted)), Arg::Path(path)) => {
-            let (reach, class) = reach(alloc, scope, path)?;
+    let Some(taken) = sort_class(scope.spec, &param.sort) else {
+        return Err(FormFault::NotBuilt);
+    };
+    let found = given(alloc, scope, arg)?;
+    match (found, taken) {
+        (None, None) => Ok(None),
+        (Some((reach, class)), Some(wanted)) => {
             if class == wanted {
                 Ok(Some(reach))
             } else {
                 Err(FormFault::NotBuilt)
             }
         }
-        (Some(None), Arg::Literal(_)) => Ok(None),
-        (Some(None), Arg::Path(path)) if is_opaque(scope, path) => Ok(None),
-        _ => Err(FormFault::NotBuilt),
+        (None, Some(_)) => Err(FormFault::NotBuilt),
+        (Some(_), None) => Err(FormFault::NotBuilt),
     }
 }
 
-/// Whether a path is an opaque parameter.
-fn is_opaque(scope: Scope<'_>, path: &Path) -> bool
-    ensures { IsTrue result → IsOpaque scope.entry.spec.now
-        (scope_of scope.entry.class scope.entry.params.now) path.now }
+/// What an argument gives, and its class; None where it is opaque.
+fn given(alloc: Global, scope: Scope<'_>, arg: &Arg) -> Result<Option<(Reach, u32)>, FormFault>
+    requires { Keeps scope.spec.now scope.params.now }
+    ensures gives { IfOk result (GivesArgument scope.entry.spec.now
+        (scope_of scope.entry.class scope.entry.params.now) arg.now) }
+    ensures refused { IfErr result (λ e. Because e (IsUnknownArgument scope.entry.spec.now
+        (scope_of scope.entry.class scope.entry.params.now) arg.now)) }
 {
-    let Some(word) = &path.head else {
-        return false;
-    };
-    match param_of(scope.params, &word.name) {
-        Some(at) => path.fields.is_empty() && is_opaque_param(scope, word, at),
-        None => false,
+    match arg {
+        Arg::Literal(_) => Ok(None),
+        Arg::Path(path) => target(alloc, scope, path),
     }
-}
-
-fn is_opaque_param(scope: Scope<'_>, word: &Word, at: usize) -> bool
-    requires at { at < length scope.params.now }
-    requires named { option_map (λ p. p.name.name) (slice_get scope.params.now at) ≡ Some word.now.name }
-    ensures { IsTrue result → Begins scope.entry.spec.now (scope_of scope.entry.class scope.entry.params.now)
-        (Some word.now) (at + 1) [] None }
-{
-    matches!(sort_class(scope.spec, &scope.params[at].sort), Some(None))
 }

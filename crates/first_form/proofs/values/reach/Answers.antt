@@ -1,8 +1,7 @@
-use Rattle.std.specs.Option.{option_to_list}
-use Rattle.first_form.proofs.PathLemmas.{goes_on}
+use Rattle.first_form.proofs.RefusalLemmas.{passed_on}
+use Rattle.first_form.specs.Refusals.{unknown}
 use Rattle.first_form.proofs.values.reach.Goals as goal
 
-pub each-preserved : goal.each-preserved
-each-preserved c =
-    goes_on c.args.scope.spec.now c.in_ok-head.head.class c.args.path.now.fields c.each.word-index (option_to_list c.in_ok-head.head.field) c.each.fields _ c.each.class c.word-item.result c.in-Some.position c.in-Some.next
-    c.each.invariant (rw c.as_slice-word-items.ensures at c.each-test.true) (rw c.as_slice-word-items.ensures at c.word-item.is) c.in-Some.ensures.field c.in_ok-push.ensures.ok
+pub returns-in_err-found-clause-refused : goal.returns-in_err-found-clause-refused
+returns-in_err-found-clause-refused c =
+    passed_on _ _ c.from_residual.result c.in_err-found.field-0.0 c.from_residual.ensures.1 (λ why. unknown why) c.in_err-found.ensures.refused

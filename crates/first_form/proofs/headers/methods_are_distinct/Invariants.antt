@@ -1,0 +1,11 @@
+use Rattle.std.proofs.Common.{length}
+use Rattle.std.specs.Prelude.{◌↔◌, map}
+use Rattle.easl_model.specs.Names.{methods_in}
+use Rattle.first_form.specs.Headers.{AreDistinct}
+use Rattle.first_form.proofs.headers.methods_are_distinct.Given as goal
+
+abbrev pub invariant-each : goal.invariant-each
+invariant-each l = AreDistinct (map (λ code. code.name) (methods_in l.rest)) ↔ AreDistinct (map (λ code. code.name) (methods_in l.fn.members))
+
+abbrev pub decreases-each : goal.decreases-each
+decreases-each l = length l.rest
