@@ -1,3 +1,10 @@
+pub mod Calls
+pub mod Contexts
 pub mod Grammar
+pub mod Lookups
+pub mod Nodes
+pub mod Points
+pub mod Rules
 pub mod Spelling
 pub mod Statements
+pub mod Straight

@@ -1,0 +1,22 @@
+-- What is answered of a run.
+use Rattle.std.specs.Prelude.{ℕ, Bool, List, Ok, Err}
+use Rattle.std.specs.Prelude as prelude
+use Rattle.client_model.specs.declared.program.Program.{Program}
+use Rattle.client_run.specs.Run.{Cut, Ends, Fails, IsRun, Outcome, Short}
+use Rattle.client_run.specs.declared.runner.Outcome as made
+use Rattle.client_run.specs.declared.runner.Outcome.TheVariants as ending
+use Rattle.client_run.specs.declared.runner.RunFault.{RunFault}
+use Rattle.client_run.specs.declared.runner.RunFault.TheVariants as fault
+use Rattle.easl_model.specs.Form.{Form}
+
+-- the code's outcome
+abbrev pub outcome_told : made.Outcome → Outcome
+outcome_told (ending.Ends left) = Ends left
+outcome_told ending.Short = Short
+outcome_told (ending.Fails call clause left) = Fails call clause left
+
+-- what is answered of a run with this budget; want of memory says nothing of it
+abbrev pub Answers : Form → Program → List Bool → ℕ → prelude.Result made.Outcome RunFault → Type 0
+Answers form program choices budget (Ok o) = IsRun form program choices budget (outcome_told o)
+Answers form program choices budget (Err fault.Memory) = Unit {0}
+Answers form program choices budget (Err fault.Long) = IsRun form program choices budget Cut
