@@ -1,2 +1,11 @@
-pub mod Fits
-pub mod Runs
+pub mod Arguments
+pub mod Broken
+pub mod Callees
+pub mod Found
+pub mod LastStatement
+pub mod Sound
+pub mod Steps
+pub mod Table
+pub mod Taken
+pub mod Texts
+pub mod Wholes

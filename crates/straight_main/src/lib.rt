@@ -1,13 +1,15 @@
-//! The clients that are built so far, a `main` of straight code: reads them, checks them against a specification,
-//! and executes them on the heap.
+//! The clients that are certified so far, whose only item is a `main` of straight code: checks them against a
+//! specification.
 #![tactic(auto)]
 
-mod calls;
-mod reader;
-mod running;
-#[cfg(test)]
-mod tests;
-mod tree;
+mod check;
+mod fault;
+mod made;
+mod names;
+mod read;
+mod scope;
+mod values;
+mod walk;
 
-pub use calls::{MadeCall, calls_of};
-pub use running::{Failure, run};
+pub use fault::MainFault;
+pub use read::read_straight;

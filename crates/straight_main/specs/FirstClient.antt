@@ -1,0 +1,25 @@
+-- The first form of clients.
+use Rattle.std.specs.Prelude.{ℕ, List}
+use Rattle.client_model.specs.Grammar.{IsClient}
+use Rattle.client_model.specs.Rules.{IsWellFormed}
+use Rattle.client_model.specs.Statements.{Statements}
+use Rattle.client_model.specs.Straight.{IsStraightMain}
+use Rattle.client_model.specs.declared.tree.Client.{Client}
+use Rattle.cv_read.specs.Answers.{AreTaken}
+use Rattle.easl_model.specs.Brackets.{Shallow}
+use Rattle.easl_model.specs.Form.{Form}
+use Rattle.easl_model.specs.declared.token.Tokens.{Tokens}
+
+-- the text has plain bytes alone, and the whole text spells the client, with at most 64 brackets unclosed at once
+pub record SpellsClient (text : List ℕ) (client : Client) : Type 0 where
+  pub tokens : Tokens
+  pub taken : AreTaken text tokens
+  pub shallow : Shallow tokens.list
+  pub spelled : IsClient text tokens.end tokens.list client
+
+-- the text is of the form for a specification, and these are the statements of its `main`
+pub record IsFirstClient (form : Form) (text : List ℕ) (body : Statements) : Type 0 where
+  pub client : Client
+  pub spells : SpellsClient text client
+  pub main : IsStraightMain client body
+  pub well_formed : IsWellFormed form body

@@ -1,0 +1,106 @@
+//! Arguments: names of variables, and literals.
+ghost use Rattle.std.specs.Prelude.{◌≡◌, ◌≢◌, ◌+◌, ◌*◌, ◌++◌, Some, length, chars, codes, IfOk, IsErrOf, map, option_map};
+ghost use Rattle.client_model.specs.Calls.{word_class};
+ghost use Rattle.client_model.specs.Contexts.{Context};
+ghost use Rattle.client_model.specs.Lookups.{begins_literal, is_literal, is_same};
+ghost use Rattle.client_model.specs.Points.{argument_code};
+ghost use Rattle.straight_main.specs.Holding.{Holds};
+ghost use Rattle.straight_main.specs.Making.{Fit};
+
+use crate::fault::MainFault;
+use crate::scope::{Variable, Variables, variable_of};
+use easl_model::{Name, Word};
+use sqlite_items::Items;
+
+/// Whether a word is a literal.
+fn is_literal(name: &Name) -> bool
+    ensures { result ≡ is_literal name.now }
+{
+    begins_literal(name) || is_true(name) || is_false(name)
+}
+
+fn is_true(name: &Name) -> bool
+    ensures { result ≡ is_same name.now (codes "true") }
+{
+    is_text(name, "true")
+}
+
+fn is_false(name: &Name) -> bool
+    ensures { result ≡ is_same name.now (codes "false") }
+{
+    is_text(name, "false")
+}
+
+fn begins_literal(name: &Name) -> bool
+    ensures { result ≡ begins_literal name.now }
+{
+    match name.0.chars().next() {
+        Some(first) => first.is_ascii_digit() || first == '"',
+        None => false,
+    }
+}
+
+#[tactic(auto, using(crate::proofs::Table::same_test))]
+pub(crate) fn is_text(name: &Name, text: &str) -> bool
+    ensures { result ≡ is_same name.now (chars text.now) }
+{
+    name.0.as_str() == text
+}
+
+/// The code of a variable, None where it is opaque. Codes that run out are want of memory.
+pub(crate) fn code_of(variable: Variable) -> Result<Option<u32>, MainFault>
+    ensures code { IfOk result (λ code. code ≡ option_map (λ class. 4 * variable.number + 1) variable.class) }
+    ensures refused { result ≢ Err MainFault.NotBuilt }
+{
+    if variable.class.is_none() {
+        return Ok(None);
+    }
+    if variable.number >= u32::MAX / 4 {
+        return Err(MainFault::Memory);
+    }
+    Ok(Some(4 * variable.number + 1))
+}
+
+/// The code of an argument for a parameter of this class.
+fn argument(
+    variables: &Variables,
+    word: &Word,
+    taken: Option<u32>,
+) -> Result<Option<u32>, MainFault>
+    ensures class { IfOk result (λ code. (c : Context) → Holds c variables.now → word_class c word.now ≡ Some taken) }
+    ensures code { IfOk result (λ code. (c : Context) → Holds c variables.now → code ≡ argument_code c word.now) }
+    ensures refused { IsErrOf result MainFault.NotBuilt → (c : Context) → Holds c variables.now → word_class c word.now ≢ Some taken }
+{
+    if is_literal(&word.name) {
+        return match taken {
+            None => Ok(None),
+            Some(_) => Err(MainFault::NotBuilt),
+        };
+    }
+    match variable_of(variables, &word.name) {
+        Some(variable) if variable.class == taken => code_of(variable),
+        _ => Err(MainFault::NotBuilt),
+    }
+}
+
+/// The codes of the arguments for these parameters, behind those that are there.
+pub(crate) fn arguments(
+    variables: &Variables,
+    words: &[Word],
+    params: &[Option<u32>],
+    front: Items<Option<u32>>,
+) -> Result<Items<Option<u32>>, MainFault>
+    ensures fit { IfOk result (λ found. (c : Context) → Holds c variables.now → Fit c words.now params.now) }
+    ensures count { IfOk result (λ found. length found ≡ length front + length params.now) }
+    ensures codes { IfOk result (λ found. (c : Context) → Holds c variables.now → found ≡ front ++ map (argument_code c) words.now) }
+    ensures refused { IsErrOf result MainFault.NotBuilt → (c : Context) → Holds c variables.now → Fit c words.now params.now → ⊥ }
+{
+    if words.len() != params.len() {
+        return Err(MainFault::NotBuilt);
+    }
+    let mut found = front;
+    'each: for at in 0..words.len() {
+        found.push(argument(variables, &words[at], params[at])?)?;
+    }
+    Ok(found)
+}
