@@ -1,2 +1,5 @@
+pub mod Decided
+pub mod Headlines
 pub mod Loads
+pub mod Names
 pub mod Written

@@ -1,2 +1,4 @@
 pub mod Answers
+pub mod Headline
 pub mod Texts
+pub mod Verdicts

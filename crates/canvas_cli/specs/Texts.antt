@@ -1,11 +1,12 @@
 -- The status and the text of each answer.
-use Rattle.std.specs.Prelude.{ℕ, List, ◌++◌, codes, decimal}
+use Rattle.std.specs.Prelude.{ℕ, List, ◌++◌, codes, decimal, encode_utf8_all}
 use Rattle.cv_base.specs.declared.status.Status.{Status}
 use Rattle.cv_base.specs.declared.status.Status.TheVariants as s
 use Rattle.canvas_cli.specs.declared.answer.Role.{Role}
 use Rattle.canvas_cli.specs.declared.answer.Role.TheVariants.{Specification, Client}
 use Rattle.canvas_cli.specs.declared.answer.Answer.{Answer}
 use Rattle.canvas_cli.specs.declared.answer.Answer.TheVariants.{Usage, ReadFault, NotBuilt, Memory, Certified, Alarm}
+use Rattle.easl_model.specs.declared.place.Place.{Place}
 
 abbrev pub status_of : Answer → Status
 status_of Usage = s.Usage
@@ -26,15 +27,18 @@ abbrev pub not_built_text : Role → List ℕ
 not_built_text Specification = codes "not built specification\n"
 not_built_text Client = codes "not built client\n"
 
--- an alarm at a call at a line and a column, of a class's method, and its path, which takes no test
-abbrev pub alarm_text : ℕ → ℕ → List ℕ → List ℕ → ℕ → List ℕ
-alarm_text line col class method clause =
-    codes "alarm " ++ decimal line ++ codes ":" ++ decimal col ++ codes " " ++ class ++ codes "." ++ method ++ codes " " ++ decimal clause ++ codes "\n0 main:\n"
+abbrev pub certified_text : List ℕ
+certified_text = codes "certified\n"
+
+-- an alarm at the call at this place, of a class's method, and its path, which takes no test
+abbrev pub alarm_text : Place → List ℕ → List ℕ → ℕ → List ℕ
+alarm_text place class method clause =
+    codes "alarm " ++ decimal place.line ++ codes ":" ++ decimal place.col ++ codes " " ++ encode_utf8_all class ++ codes "." ++ encode_utf8_all method ++ codes " " ++ decimal clause ++ codes "\n0 main:\n"
 
 abbrev pub text_of : Answer → List ℕ
 text_of Usage = usage_text
 text_of (ReadFault role) = read_fault_text role
 text_of (NotBuilt role) = not_built_text role
 text_of Memory = codes "memory\n"
-text_of Certified = codes "certified\n"
+text_of Certified = certified_text
 text_of (Alarm text) = text.items

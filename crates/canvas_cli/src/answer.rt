@@ -1,5 +1,5 @@
 //! What a command answers, and the text and the status of each answer.
-ghost use Rattle.std.specs.Prelude.{◌≡◌, IfOk, decimal};
+ghost use Rattle.std.specs.Prelude.{◌≡◌, ◌++◌, IfOk, OnOk, encode_utf8_all};
 ghost use Rattle.canvas_cli.specs.Texts.{status_of, text_of, read_fault_text, not_built_text, alarm_text};
 
 use cv_base::{Memory, Status, push_bytes, push_number};
@@ -85,11 +85,11 @@ fn not_built_line(role: Role) -> &'static [u8]
 pub(crate) fn alarm_lines(
     alloc: Global,
     place: Place,
-    class: &str,
-    method: &str,
+    class: &Name,
+    method: &Name,
     clause: u32,
 ) -> Result<Vec<u8>, Memory>
-    ensures { IfOk result (λ v. v.items ≡ alarm_text place.line place.col class.now method.now clause) }
+    ensures { IfOk result (λ v. v.items ≡ alarm_text place class.now method.now clause) }
 {
     let mut out = Vec::new(alloc);
     push_bytes(&mut out, b"alarm ")?;
@@ -97,11 +97,18 @@ pub(crate) fn alarm_lines(
     push_bytes(&mut out, b":")?;
     push_number(&mut out, u64::from(place.col))?;
     push_bytes(&mut out, b" ")?;
-    push_bytes(&mut out, class.as_bytes())?;
+    push_name(&mut out, class)?;
     push_bytes(&mut out, b".")?;
-    push_bytes(&mut out, method.as_bytes())?;
+    push_name(&mut out, method)?;
     push_bytes(&mut out, b" ")?;
     push_number(&mut out, u64::from(clause))?;
     push_bytes(&mut out, b"\n0 main:\n")?;
     Ok(out)
+}
+
+#[tactic(auto, using(crate::proofs::Names::spelled))]
+fn push_name(out: &mut Vec<u8>, name: &Name) -> Result<(), Memory>
+    ensures { OnOk result (out.new.items ≡ out.old.items ++ encode_utf8_all name.now) }
+{
+    push_bytes(out, name.0.as_str().as_bytes())
 }

@@ -1,17 +1,15 @@
 //! The top call.
-ghost use Rattle.std.specs.Prelude.{◌≡◌, ◌≢◌, ◌≤◌, ℕ, List, length, All, MatchOption};
+ghost use Rattle.std.specs.Prelude.{◌≡◌, ◌≢◌, ◌≤◌, ℕ, List, length, MatchOption};
 ghost use Rattle.cv_base.specs.Causes.{Rose};
-ghost use Rattle.canvas_cli.specs.Answers.{IsCertify, IsCommand, IsLoaded, ClientAnswers, Certifies, IsAllowed, WritesAllowed, CouldNotLoad, Decides};
-ghost use Rattle.straight_main.specs.Calls.{CallFits};
+ghost use Rattle.canvas_cli.specs.Answers.{IsCertify, IsCommand, ClientAnswers, Certifies, IsAllowed, WritesAllowed, CouldNotLoad};
+ghost use Rattle.canvas_cli.specs.Headline.{Headline, IsComplete, NotBuiltExactly};
 
-use crate::answer::{Answer, Role, alarm_lines};
+use crate::answer::{Answer, Role};
+use crate::deciding::decide;
 use crate::loading::{NoText, load};
 use crate::writing::write;
-use cv_base::{Memory, Shelf, Sink, Status};
-use easl_model::CheckedSpec;
-use first_form::{FormFault, read_specification};
+use cv_base::{Shelf, Sink, Status};
 use std::alloc::Global;
-use straight_main::{MadeCall, calls_of, run};
 
 /// Runs the program on the words of its command line, without the program's name: loads the texts that the words
 /// name from the shelf, writes the answer to the sink, and gives the status.
@@ -32,6 +30,10 @@ pub fn canvas<S: Shelf, W: Sink>(
     ensures write { result ≡ Status.WriteFault → Rose (W.faults out.old) (W.faults out.new) }
     ensures whole { WritesAllowed (S.held shelf.old) (λ name. Rose (S.faults shelf.old name) (S.faults shelf.new name)) words.now
         (W.taken out.old) (W.taken out.new) (Rose (W.faults out.old) (W.faults out.new)) result }
+    ensures headline { Headline (S.held shelf.old) words.now (W.taken out.old) (W.taken out.new) result }
+    ensures not_built { NotBuiltExactly (S.held shelf.old) words.now (W.taken out.old) (W.taken out.new) result }
+    ensures complete { IsComplete (S.held shelf.old) (λ name. Rose (S.faults shelf.old name) (S.faults shelf.new name))
+        (Rose (W.faults out.old) (W.faults out.new)) words.now result }
 {
     let answer = answer(alloc, words, shelf);
     write(out, &answer)
@@ -83,7 +85,7 @@ fn certify_client<S: Shelf>(
     client: &str,
 ) -> Answer
     requires { length specification.now ≤ 65536 }
-    ensures answers { ClientAnswers (S.held shelf.old client.now) (Rose (S.faults shelf.old client.now) (S.faults shelf.new client.now)) result }
+    ensures answers { ClientAnswers specification.now (S.held shelf.old client.now) (Rose (S.faults shelf.old client.now) (S.faults shelf.new client.now)) result }
     ensures later { (other : List ℕ) → S.faults shelf.old other ≤ S.faults shelf.new other }
 {
     match load(alloc, shelf, client, Role::Client) {
@@ -91,62 +93,5 @@ fn certify_client<S: Shelf>(
         Err(NoText::Failed) => Answer::ReadFault(Role::Client),
         Err(NoText::TooLong) => Answer::NotBuilt(Role::Client),
         Err(NoText::Memory) => Answer::Memory,
-    }
-}
-
-/// The answer by the two texts.
-fn decide(alloc: Global, specification_text: &[u8], client_text: &[u8]) -> Answer
-    requires specification { length specification_text.now ≤ 65536 }
-    requires client { length client_text.now ≤ 1048576 }
-    ensures { Decides result }
-{
-    let spec = match read_specification(alloc, specification_text) {
-        Ok(spec) => spec,
-        Err(fault) => return refusal(Role::Specification, fault),
-    };
-    match calls_of(alloc, &spec, client_text) {
-        Ok(calls) => verdict(alloc, &spec, calls.as_slice()),
-        Err(fault) => refusal(Role::Client, fault),
-    }
-}
-
-/// The answer where the text of a role is not taken.
-fn refusal(role: Role, fault: FormFault) -> Answer
-    ensures { Decides result }
-{
-    match fault {
-        FormFault::NotBuilt => Answer::NotBuilt(role),
-        FormFault::Memory => Answer::Memory,
-    }
-}
-
-/// Executes the calls, and answers whether a clause is false.
-fn verdict(alloc: Global, spec: &CheckedSpec, calls: &[MadeCall]) -> Answer
-    requires { All (CallFits spec.now) calls.now }
-    ensures { Decides result }
-{
-    match run(alloc, spec, calls) {
-        Ok(None) => Answer::Certified,
-        Ok(Some(failure)) => alarm(alloc, spec, &calls[failure.call], failure.clause),
-        Err(Memory) => Answer::Memory,
-    }
-}
-
-/// The alarm at a call whose clause is false.
-fn alarm(alloc: Global, spec: &CheckedSpec, call: &MadeCall, clause: u32) -> Answer
-    requires { CallFits spec.now call.now }
-    ensures { Decides result }
-{
-    let method = spec.method(call.method);
-    let class = spec.class_name(method.class);
-    match alarm_lines(
-        alloc,
-        call.place,
-        class.0.as_str(),
-        method.name.0.as_str(),
-        clause,
-    ) {
-        Ok(text) => Answer::Alarm(text),
-        Err(Memory) => Answer::Memory,
     }
 }

@@ -3,7 +3,10 @@
 
 mod answer;
 mod canvas;
+mod deciding;
 mod disk_shelf;
+#[cfg(test)]
+mod heap_tests;
 mod loading;
 mod std_sink;
 #[cfg(test)]

@@ -1,3 +1,6 @@
+use Rattle.std.proofs.Common.{subst}
+use Rattle.cv_base.specs.Causes.{Rose}
+use Rattle.canvas_cli.specs.Answers.{ClientAnswers}
 use Rattle.canvas_cli.proofs.Loads.{answered}
 use Rattle.canvas_cli.proofs.canvas.certify.Goals as goal
 
@@ -10,4 +13,4 @@ returns-in-Ok g c =
     let client = c.args.client.now in
     answered (held old) (held mid) (faults old) (faults mid) (faults c.certify_client.new.shelf) c.args.spec.now client
     c.in-Ok.text.items c.certify_client.result c.in-Ok.ensures.text (c.load.ensures.held client) (c.load.ensures.later client)
-    c.certify_client.ensures.answers
+    (subst (λ text. ClientAnswers text (held mid client) (Rose (faults mid client) (faults c.certify_client.new.shelf client)) c.certify_client.result) c.as_slice.ensures.value c.certify_client.ensures.answers)
