@@ -97,6 +97,11 @@ result_of s choices (begun.Left budget) = Passes (moment s choices budget)
 result_of s choices (begun.Broke call clause) = Stops (Fails call clause (length choices))
 result_of s choices begun.Cut = Stops Cut
 
+-- the code found what the point comes to, whatever choices are left
+abbrev pub Begins : Form → Program → ℕ → ℕ → State → State → Begun → Type 0
+Begins form program number budget before now b =
+    (choices : List Bool) → result_of now choices b ≡ comes_at form program number budget (moment before choices budget)
+
 -- the code found what the turn comes to; want of memory says nothing of it
 abbrev pub Finds : Turn → Runner → prelude.Result (Option made.Outcome) RunFault → Type 0
 Finds t w (Ok None) = t ≡ On (place_in w)

@@ -11,19 +11,23 @@ use cv_base::Memory;
 use easl_model::CheckedSpec;
 use std::alloc::Global;
 
-/// How a run ends: behind the last statement, at a test that finds no choice, or at the first false clause of a call,
-/// which is counted from 1. `left` choices are not taken.
+/// How a run ends. `left` is the number of choices that are not taken.
 #[derive(Clone, Copy, Debug, PartialEq, Eq)]
 pub enum Outcome {
+    /// Behind the last statement.
     Ends { left: u64 },
+    /// At a test that finds no choice left.
     Short,
+    /// At the call of this number, of which this clause is false, the first of them, counted from 1.
     Fails { call: u32, clause: u32, left: u64 },
 }
 
-/// Why there is no outcome: want of memory, or more than 10,000,000 units.
+/// Why there is no outcome.
 #[derive(Clone, Copy, Debug, PartialEq, Eq)]
 pub enum RunFault {
+    /// Memory was wanted and not found.
     Memory,
+    /// A unit was asked for, and 10,000,000 were taken.
     Long,
 }
 
@@ -41,9 +45,10 @@ struct Runner<'a> {
     budget: u32,
 }
 
-/// Executes the program on these choices, with a budget of 10,000,000 units: one for each statement begun and each later
-/// evaluation of a `while` test, and one for each Easl statement executed. A test takes the next choice. `Long` says
-/// that a unit was asked for and none was left; `Memory` says nothing of the run.
+/// Executes the program on these choices, with a budget of 10,000,000 units: one for each statement begun, for each
+/// later evaluation of a `while` test, and for each Easl statement executed. A test makes its call and then takes the
+/// next choice. It needs no stack for the program's nesting, and memory for no more than the heap, the variables and
+/// the rows of statements that stand in one another.
 pub fn run(
     alloc: Global,
     spec: &CheckedSpec,
@@ -161,7 +166,8 @@ impl<'a> Runner<'a> {
     /// Goes on behind the point of the statement, which is done.
     fn go_on(&mut self, node: &'a Node, rest: &'a [Node]) -> Result<Option<Outcome>, RunFault>
         requires here { self.old.here.now ≡ node.now ∷ rest.now }
-        ensures { Finds (goes (tree_of node.now) (row rest.now) (behind_in self.old) (moment_in self.old)) self.new result }
+        ensures { Finds (goes (tree_of node.now) (row rest.now) (behind_in self.old) (moment_in self.old))
+            self.new result }
     {
         match node {
             Node::Step(_) => {
@@ -180,7 +186,8 @@ impl<'a> Runner<'a> {
         second: &'a [Node],
         rest: &'a [Node],
     ) -> Result<Option<Outcome>, RunFault>
-        ensures { Finds (branched (row first.now) (row second.now) (row rest.now) (behind_in self.old) (moment_in self.old)) self.new result }
+        ensures { Finds (branched (row first.now) (row second.now) (row rest.now) (behind_in self.old)
+            (moment_in self.old)) self.new result }
     {
         let Some((choice, choices)) = self.choices.split_first() else {
             return Ok(Some(Outcome::Short));
@@ -195,7 +202,8 @@ impl<'a> Runner<'a> {
 
     /// Takes a choice, and enters the body of the `while` that begins the row, or goes on behind it.
     fn again(&mut self, inner: &'a [Node], rest: &'a [Node]) -> Result<Option<Outcome>, RunFault>
-        ensures { Finds (looped (row self.old.here.now) (row inner.now) (row rest.now) (behind_in self.old) (moment_in self.old)) self.new result }
+        ensures { Finds (looped (row self.old.here.now) (row inner.now) (row rest.now) (behind_in self.old)
+            (moment_in self.old)) self.new result }
     {
         let Some((choice, choices)) = self.choices.split_first() else {
             return Ok(Some(Outcome::Short));
@@ -211,7 +219,8 @@ impl<'a> Runner<'a> {
 
     /// Goes on with the first row, and then with the second.
     fn enter(&mut self, first: &'a [Node], next: &'a [Node]) -> Result<Option<Outcome>, RunFault>
-        ensures { Finds (On (place (row first.now) (row next.now ∷ behind_in self.old) (moment_in self.old))) self.new result }
+        ensures { Finds (On (place (row first.now) (row next.now ∷ behind_in self.old) (moment_in self.old)))
+            self.new result }
     {
         if self.behind.push(next).is_err() {
             return Err(RunFault::Memory);

@@ -1,7 +1,7 @@
 //! What a run changes: the heap, and the objects of the variables.
-ghost use Rattle.std.specs.Prelude.{◌≡◌, ◌+◌, ◌<◌, ◌≤◌, Bool, List, length, map, slice_get, All, IfOk, Some};
+ghost use Rattle.std.specs.Prelude.{◌≡◌, ◌+◌, ◌<◌, ◌≤◌, length, map, slice_get, All, IfOk, Some};
 ghost use Rattle.client_run.specs.Deeds.{Comes};
-ghost use Rattle.client_run.specs.Machine.{comes_at, moment, result_of};
+ghost use Rattle.client_run.specs.Machine.{Begins};
 ghost use Rattle.client_run.specs.Run.{at_first, called, done, done_at, made, object_of, with_object};
 ghost use Rattle.client_run.specs.Straight.{CallFits};
 
@@ -159,7 +159,7 @@ impl State {
         budget: u32,
     ) -> Result<Begun, Memory>
         requires { All (CallFits spec.now) program.now.calls }
-        ensures { IfOk result (λ b. (choices : List Bool) → result_of self.new choices b ≡ comes_at spec.now program.now number budget (moment self.old choices budget)) }
+        ensures { IfOk result (Begins spec.now program.now number budget self.old self.new) }
     {
         if budget == 0 {
             return Ok(Begun::Cut);
