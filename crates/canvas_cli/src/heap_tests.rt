@@ -1,13 +1,15 @@
-//! Sets and their iterators, executed on a heap that is worked out by hand. Where memory is wanted once, as with
+//! Sets and their iterators, executed on a heap that is worked out by hand, and clients that run on it. Where memory is wanted once, as with
 //! `--fail-alloc`, nothing has changed, and the same is done again.
-ghost use Rattle.std.specs.Prelude.{◌<◌, length, IsTrue};
+ghost use Rattle.std.specs.Prelude.{◌<◌, ◌≤◌, length, IsTrue};
 ghost use Rattle.easl_heap.specs.Body.{HasArguments};
 
+use client_run::{Outcome, run};
 use easl_heap::{Done, Heap};
 use easl_model::CheckedSpec;
 use first_form::{FormFault, read_specification};
 use std::alloc::Global;
 use std::test::Fail;
+use straight_main::read_straight;
 
 const SETS: &[u8] = b"class Iterator {
   Set set;
@@ -138,5 +140,52 @@ fn iterators_follow_their_set(rt: HostRuntime) -> Result<(), Fail> {
     ] {
         assert_eq!(rt; heap.get(object, field), want, "field {field} of {object}");
     }
+    Ok(())
+}
+
+const USED: &[u8] = b"void main() {
+  Set v = new Set();
+  Iterator i = v.iterator();
+  i.next();
+}
+";
+
+const USED_AFTER_A_CHANGE: &[u8] = b"void main() {
+  Set v = new Set();
+  Iterator i = v.iterator();
+  v.add(\"a\");
+  i.next();
+}
+";
+
+/// How the client runs on no choices; None where it is not read, or memory is wanted.
+fn outcome_of(alloc: Global, spec: &CheckedSpec, text: &[u8]) -> Option<Outcome>
+    requires { length text.now ≤ 1048576 }
+{
+    match read_straight(alloc, spec, text) {
+        Ok(program) => run(alloc, spec, &program, &[]).ok(),
+        Err(_) => None,
+    }
+}
+
+#[test]
+fn clients_run_on_no_choices(rt: HostRuntime) -> Result<(), Fail> {
+    let alloc = rt.alloc();
+    let Ok(spec) = specification(alloc) else {
+        assert_eq!(rt; "read", "not read");
+        return Ok(());
+    };
+    assert_eq!(rt;
+        outcome_of(alloc, &spec, USED),
+        Some(Outcome::Ends { left: 0 })
+    );
+    assert_eq!(rt;
+        outcome_of(alloc, &spec, USED_AFTER_A_CHANGE),
+        Some(Outcome::Fails {
+            call: 3,
+            clause: 1,
+            left: 0,
+        })
+    );
     Ok(())
 }
