@@ -24,6 +24,14 @@ value_in (Do v) = Some v
 value_in (If t first second written) = value_of_test t
 value_in (While t inner) = value_of_test t
 
+-- the statement asks: it is an `if` or a `while`
+abbrev pub Asks : Statement → Type 0
+Asks (Declare sort w v) = ⊥
+Asks (Assign w v) = ⊥
+Asks (Do v) = ⊥
+Asks (If t first second written) = Unit {0}
+Asks (While t inner) = Unit {0}
+
 abbrev pub arguments : Rhs → List Word
 arguments (rhs.Copy w) = []
 arguments (rhs.New x) = x.args

@@ -34,14 +34,16 @@ class_of form (sort.Class w) = class_named form w.name
 abbrev pub method_named : Form → ℕ → List ℕ → Option ℕ
 method_named form class name = position_from (λ m. not m.constructor && (m.class == class) && is_same m.name name) 0 form.methods
 
--- a method or a constructor that is called: its number, the classes of what it takes, and that of what it gives
+-- a method or a constructor that is called: its number, the classes of what it takes, that of what it gives, and
+-- whether it gives a value
 pub record Callee : Type 0 where
   pub method : ℕ
   pub params : List (Option ℕ)
   pub result : Option ℕ
+  pub gives : Bool
 
 abbrev pub callee_of : ℕ → Method → Callee
-callee_of number m = record { method = number; params = m.params; result = m.result }
+callee_of number m = record { method = number; params = m.params; result = m.result; gives = m.gives }
 
 abbrev pub numbered : Form → ℕ → Option Callee
 numbered form number = option_map (callee_of number) (slice_get form.methods number)

@@ -1,6 +1,6 @@
 -- The rules of a body: where one is broken, and when none is.
-use Rattle.std.specs.Prelude.{◌≡◌, ◌≢◌, ℕ, false, Contains, Option, Some, None, IsSome, length, slice_get}
-use Rattle.client_model.specs.Calls.{arguments, callee, place_of, receiver_class, taken_as, value_class, value_in, variable_class, word_class, operands}
+use Rattle.std.specs.Prelude.{◌≡◌, ◌≢◌, ℕ, true, false, Contains, Option, Some, None, IsSome, length, slice_get}
+use Rattle.client_model.specs.Calls.{Asks, arguments, callee, place_of, receiver_class, taken_as, value_class, value_in, variable_class, word_class, operands}
 use Rattle.client_model.specs.Contexts.{Situated, Variable, nothing_yet, situated, variable_named}
 use Rattle.client_model.specs.Lookups.{Callee, class_named, is_literal, method_named}
 use Rattle.client_model.specs.Statements.{Statements, Declare, Assign}
@@ -36,9 +36,16 @@ pub record Calls (form : Form) (s : Situated) (value : Rhs) (m : Callee) : Type 
   pub stands : value_in s.statement ≡ Some value
   pub called : callee form s.context value ≡ Some m
 
--- a value or an argument is of another type, arguments are too many or too few, or a receiver is opaque
+-- what is called gives a value that is opaque
+abbrev pub GivesOpaque : Callee → Type 0
+GivesOpaque m = (m.gives ≡ true) × (m.result ≡ None)
+
+-- a value or an argument is of another type, a call that gives nothing is taken as a value, a test's call gives no
+-- opaque value, arguments are too many or too few, or a receiver is opaque
 pub data HasMismatch (form : Form) (s : Situated) : Place → Type 0 where
   value : (v : Rhs) (given taken : Option ℕ) → value_in s.statement ≡ Some v → value_class form s.context v ≡ Some given → taken_as form s.context s.statement ≡ Some taken → given ≢ taken → HasMismatch form s (place_of v)
+  no_value : (v : Rhs) (m : Callee) → Calls form s v m → IsSome (taken_as form s.context s.statement) → m.gives ≡ false → HasMismatch form s (place_of v)
+  test : (x : Component) (m : Callee) → Asks s.statement → Calls form s (rhs.Component x) m → (GivesOpaque m → ⊥) → HasMismatch form s x.receiver.place
   argument : (v : Rhs) (m : Callee) (k : ℕ) (w : Word) (given taken : Option ℕ) → Calls form s v m → slice_get (arguments v) k ≡ Some w → slice_get m.params k ≡ Some taken → word_class s.context w ≡ Some given → given ≢ taken → HasMismatch form s w.place
   count : (v : Rhs) (m : Callee) → Calls form s v m → length (arguments v) ≢ length m.params → HasMismatch form s (place_of v)
   receiver : (x : Component) → value_in s.statement ≡ Some (rhs.Component x) → variable_class s.context x.receiver ≡ Some None → HasMismatch form s x.receiver.place

@@ -3,6 +3,7 @@ pub mod ClassesFit
 pub mod Constructors
 pub mod Cuts
 pub mod FormsInRange
+pub mod Given
 pub mod NamesThere
 pub mod OneForm
 pub mod OneWay

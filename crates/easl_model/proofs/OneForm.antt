@@ -193,8 +193,9 @@ method_is_one spec differ b has m n is also =
     let results = result_is_one spec b distinct one b.constructor m.result n.result m.value n.value is.result (subst (λ c. IsResultOf spec b c n.result n.value) refl also.result) in
     let result : m.result ≡ n.result = results.0 in
     let returned : m.value ≡ n.value = results.1 in
-    let first : Method = record { class = m.class; name = m.name; constructor = m.constructor; params = m.params; names = m.names; result = m.result; clauses = m.clauses; body = m.body; value = m.value } in
-    let second : Method = record { class = n.class; name = n.name; constructor = n.constructor; params = n.params; names = n.names; result = n.result; clauses = n.clauses; body = n.body; value = n.value } in
+    let given : m.gives ≡ n.gives = is.gives ∙ sym also.gives in
+    let first : Method = record { class = m.class; name = m.name; constructor = m.constructor; params = m.params; names = m.names; result = m.result; gives = m.gives; clauses = m.clauses; body = m.body; value = m.value } in
+    let second : Method = record { class = n.class; name = n.name; constructor = n.constructor; params = n.params; names = n.names; result = n.result; gives = n.gives; clauses = n.clauses; body = n.body; value = n.value } in
     let same : first ≡ second = cc in same
 
 -- a class's constructor stands in one place

@@ -1,5 +1,5 @@
 -- The checked form of a tree: the same tree with numbers in place of names.
-use Rattle.std.specs.Prelude.{◌≡◌, ℕ, suc, ◌<◌, true, false, List, [], ◌∷◌, ◌++◌, Bool, Option, Some, None, map, slice_get, length}
+use Rattle.std.specs.Prelude.{◌≡◌, ℕ, suc, ◌<◌, ◌||◌, true, false, List, [], ◌∷◌, ◌++◌, Bool, Option, Some, None, map, slice_get, length}
 use Rattle.std.specs.List.{AllZip}
 use Rattle.easl_model.specs.Bodies.{Body, bodies_of, constructor_body}
 use Rattle.easl_model.specs.Clauses.{Clause, Clauses, clause_of}
@@ -22,6 +22,8 @@ use Rattle.easl_model.specs.declared.tree.Arg.TheVariants as arg
 use Rattle.easl_model.specs.declared.tree.Class.{Class}
 use Rattle.easl_model.specs.declared.tree.Cond.{Cond}
 use Rattle.easl_model.specs.declared.tree.Path.{Path}
+use Rattle.easl_model.specs.declared.tree.Sort.{Sort}
+use Rattle.easl_model.specs.declared.tree.Sort.TheVariants as sort
 use Rattle.easl_model.specs.declared.tree.Spec.{Spec}
 use Rattle.easl_model.specs.declared.tree.Step.{Step}
 use Rattle.easl_model.specs.declared.tree.Step.TheVariants.{Declare, Assign}
@@ -91,6 +93,16 @@ abbrev pub IsResultOf : Spec → Body → Bool → Option ℕ → Option Source 
 IsResultOf spec b true result value = (result ≡ Some b.class) × (value ≡ None)
 IsResultOf spec b false result value = IsSort spec b.code.result result × IsReturnOf spec b b.code.value value result
 
+-- a type that values can have: each but `void`
+abbrev pub has_values : Sort → Bool
+has_values sort.Void = false
+has_values (sort.Opaque kind) = true
+has_values (sort.Class name) = true
+
+-- a constructor gives a value, and so does a method unless its result is `void`
+abbrev pub gives_value : Body → Bool
+gives_value b = b.constructor || has_values b.code.result
+
 pub record IsMethodOf (spec : Spec) (b : Body) (m : Method) : Type 0 where
   pub class : m.class ≡ b.class
   pub name : m.name ≡ b.code.name.name
@@ -100,6 +112,7 @@ pub record IsMethodOf (spec : Spec) (b : Body) (m : Method) : Type 0 where
   pub clauses : AllZip (IsTestOf spec (scope_at b 0)) b.code.clauses m.clauses
   pub body : AreActsOf spec b 0 b.code.body m.body
   pub result : IsResultOf spec b b.constructor m.result m.value
+  pub gives : m.gives ≡ gives_value b
 
 pub record IsClassOf (spec : Spec) (class : ℕ) (c : Class) (form : ClassForm) : Type 0 where
   pub name : form.name ≡ c.name.name

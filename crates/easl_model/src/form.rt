@@ -13,7 +13,8 @@ pub struct ClassForm {
 }
 
 /// A method or a constructor. A parameter's class is None where it is opaque, the result's where it is opaque
-/// or `void`; a constructor's result is its class. `names` has the parameters' names.
+/// or `void`; a constructor's result is its class. `gives` says whether it gives a value: a constructor does, a
+/// method unless its result is `void`. `names` has the parameters' names.
 #[derive(Debug, Drop)]
 pub struct Method {
     pub class: u32,
@@ -22,6 +23,7 @@ pub struct Method {
     pub params: Items<Option<u32>>,
     pub names: Items<Name>,
     pub result: Option<u32>,
+    pub gives: bool,
     pub clauses: Items<Test>,
     pub body: Items<Act>,
     pub value: Option<Source>,

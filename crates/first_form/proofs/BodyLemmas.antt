@@ -6,7 +6,7 @@ use Rattle.easl_model.specs.Arguments.{TakesArgument, TakesArguments}
 use Rattle.easl_model.specs.Bodies.{Body, constructor_body, constructor_or_implicit, method_body}
 use Rattle.easl_model.specs.BodyRules.{Calls, HasValue, IsArgument}
 use Rattle.easl_model.specs.BodyRules as body_rules
-use Rattle.easl_model.specs.FormOf.{IsTestOf, AreActsOf, IsActOf, IsArgumentOf, IsReturnOf, IsSourceOf}
+use Rattle.easl_model.specs.FormOf.{IsTestOf, AreActsOf, IsActOf, IsArgumentOf, IsReturnOf, IsSourceOf, has_values}
 use Rattle.easl_model.specs.Names.{IsSort, constructor_in, members_of}
 use Rattle.easl_model.specs.Scopes.{Scope, scope_at, locals_in, variables, Begins, IsNoVariable, IsOpaque, IsVariable, Reaches}
 use Rattle.easl_model.specs.Scopes as scopes
@@ -177,8 +177,8 @@ body_fits spec b acts zip returned n new code has calls =
     takes_behind spec b.class b.code.params (take n b.code.body) new.args code.params (no_locals_in spec (scope_of b.class b.code.params) b.code.body acts n zip) takes
 
 -- a method
-pub method_is : (spec : Spec) (class : ℕ) (code : Code) (m : Method) → m.class ≡ class → m.name ≡ code.name.name → m.constructor ≡ false → AllZip (λ p sort. IsSort spec p.sort sort) code.params m.params → m.names ≡ map (λ p. p.name.name) code.params → AllZip (IsTestOf spec (scope_of class code.params)) code.clauses m.clauses → AllZip (IsAssignment spec (scope_of class code.params)) code.body m.body → IsSort spec code.result m.result → ReturnsFirst spec (scope_of class code.params) code.value m.value m.result → IsBuilt spec (method_body class code) m
-method_is spec class code m of name is_method params names clauses body result returns =
+pub method_is : (spec : Spec) (class : ℕ) (code : Code) (m : Method) → m.class ≡ class → m.name ≡ code.name.name → m.constructor ≡ false → AllZip (λ p sort. IsSort spec p.sort sort) code.params m.params → m.names ≡ map (λ p. p.name.name) code.params → AllZip (IsTestOf spec (scope_of class code.params)) code.clauses m.clauses → AllZip (IsAssignment spec (scope_of class code.params)) code.body m.body → IsSort spec code.result m.result → m.gives ≡ has_values code.result → ReturnsFirst spec (scope_of class code.params) code.value m.value m.result → IsBuilt spec (method_body class code) m
+method_is spec class code m of name is_method params names clauses body result gives returns =
     let b = method_body class code in
     record {
       method = record {
@@ -190,13 +190,14 @@ method_is spec class code m of name is_method params names clauses body result r
         clauses = clauses;
         body = acts_are spec b m.body body;
         result = (result, return_is spec b m.body code.value m.value m.result body returns);
+        gives = gives;
       };
       arguments = body_fits spec b m.body body (return_fits spec (scope_of class code.params) code.value m.value m.result returns);
     }
 
 -- a constructor that is written
-pub constructor_is : (spec : Spec) (class : ℕ) (c : Class) (code : Code) (m : Method) → constructor_in c.members ≡ Some code → m.class ≡ class → m.name ≡ c.name.name → code.name.name ≡ c.name.name → m.constructor ≡ true → AllZip (λ p sort. IsSort spec p.sort sort) code.params m.params → m.names ≡ map (λ p. p.name.name) code.params → AllZip (IsTestOf spec (scope_of class code.params)) code.clauses m.clauses → AllZip (IsAssignment spec (scope_of class code.params)) code.body m.body → m.result ≡ Some class → m.value ≡ None → ((v : Value) → code.value ≡ Some v → ArgumentsFitIn spec (scope_of class code.params) v) → IsBuilt spec (constructor_body class c) m
-constructor_is spec class c code m written of name same is_constructor params names clauses body result no_value left_out =
+pub constructor_is : (spec : Spec) (class : ℕ) (c : Class) (code : Code) (m : Method) → constructor_in c.members ≡ Some code → m.class ≡ class → m.name ≡ c.name.name → code.name.name ≡ c.name.name → m.constructor ≡ true → AllZip (λ p sort. IsSort spec p.sort sort) code.params m.params → m.names ≡ map (λ p. p.name.name) code.params → AllZip (IsTestOf spec (scope_of class code.params)) code.clauses m.clauses → AllZip (IsAssignment spec (scope_of class code.params)) code.body m.body → m.result ≡ Some class → m.gives ≡ true → m.value ≡ None → ((v : Value) → code.value ≡ Some v → ArgumentsFitIn spec (scope_of class code.params) v) → IsBuilt spec (constructor_body class c) m
+constructor_is spec class c code m written of name same is_constructor params names clauses body result gives no_value left_out =
     let b : Body = record { class = class; constructor = true; code = code } in
     let is : IsBuilt spec b m = record {
       method = record {
@@ -208,6 +209,7 @@ constructor_is spec class c code m written of name same is_constructor params na
         clauses = clauses;
         body = acts_are spec b m.body body;
         result = (result, no_value);
+        gives = gives;
       };
       arguments = body_fits spec b m.body body left_out;
     } in

@@ -11,7 +11,7 @@ ghost use Rattle.first_form.specs.Parts.{ArgumentsFitIn, IsAssignment, IsBuilt, 
 ghost use Rattle.first_form.specs.Refusals.{Because, ClauseIsRefused, ConstructorIsRefused, HasFault, HasUntypedParam, MethodIsRefused, ReturnIsRefused, SidesAreRefused, SomeClauseIsRefused, SomeStepIsRefused, StepIsRefused, ValueIsRefused};
 
 use crate::form_fault::FormFault;
-use crate::names::{constructor_of, copied, sort_class};
+use crate::names::{constructor_of, copied, gives_value, sort_class};
 use crate::values::{Scope, reach, source};
 use easl_model::{
     Act, Class, Code, Cond, Member, Method, Name, Param, Path, Reach, Source, Spec, Step, Test,
@@ -110,6 +110,7 @@ fn implicit_constructor(
         params: Items::new(alloc),
         names: Items::new(alloc),
         result: Some(number),
+        gives: true,
         clauses: Items::new(alloc),
         body: Items::new(alloc),
         value: None,
@@ -146,6 +147,7 @@ fn constructor(
         params: param_classes(alloc, scope)?,
         names: param_names(alloc, scope.params)?,
         result: Some(number),
+        gives: true,
         clauses: clauses(alloc, scope, code.clauses.as_slice())?,
         body: assignments(alloc, scope, code.body.as_slice())?,
         value: None,
@@ -190,6 +192,7 @@ fn method(alloc: Global, spec: &Spec, number: u32, code: &Code) -> Result<Method
         params: param_classes(alloc, scope)?,
         names: param_names(alloc, scope.params)?,
         result,
+        gives: gives_value(&code.result),
         clauses: clauses(alloc, scope, code.clauses.as_slice())?,
         body: assignments(alloc, scope, code.body.as_slice())?,
         value: returned(alloc, scope, &code.value, result)?,

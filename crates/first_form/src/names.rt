@@ -2,6 +2,7 @@
 ghost use Rattle.std.specs.Prelude.{◌≡◌, ◌≢◌, ℕ, ◌<◌, ◌≤◌, length, slice_get, All, IfNone, IfOk, IfSome, Some};
 ghost use Rattle.std.specs.Option.{option_copied, option_map};
 ghost use Rattle.easl_model.specs.Bodies.{constructor_body};
+ghost use Rattle.easl_model.specs.FormOf.{has_values};
 ghost use Rattle.easl_model.specs.Names.{IsClass, IsField, IsSort, members_of as members_in, constructor_in, fields_in};
 ghost use Rattle.easl_model.specs.TreeLimits.{IsWithinLimits};
 ghost use Rattle.easl_model.specs.declared.tree.Class as tree;
@@ -37,6 +38,13 @@ pub(crate) fn sort_class(spec: &Spec, sort: &Sort) -> Option<Option<u32>>
         Sort::Void | Sort::Opaque(_) => Some(None),
         Sort::Class(word) => Some(Some(class_number(spec, &word.name)?)),
     }
+}
+
+/// Whether a result of the type is a value.
+pub(crate) fn gives_value(sort: &Sort) -> bool
+    ensures { result ≡ has_values sort.now }
+{
+    !matches!(sort, Sort::Void)
 }
 
 /// The members of a class.

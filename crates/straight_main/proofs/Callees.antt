@@ -1,5 +1,6 @@
 -- Calls of constructors and methods, by what names stand for.
 use Rattle.std.proofs.Common.{◌≡◌, ℕ, ◌+◌, ◌*◌, ◌<◌, suc, true, false, List, ◌∷◌, ap, length, map, refl, subst, sym, ◌∙◌}
+use Rattle.std.proofs.lemmas.Option.{option_and_then_some}
 use Rattle.std.specs.Prelude.{IfSome, Option, Some, None, option_and_then, option_map, slice_get}
 use Rattle.client_model.specs.Calls.{callee, receiver_class}
 use Rattle.client_model.specs.Contexts.{Context, Variable, variable_named}
@@ -7,10 +8,13 @@ use Rattle.client_model.specs.Lookups.{Callee, callee_of, class_named, method_na
 use Rattle.client_model.specs.Points.{argument_code, code_in, code_of}
 use Rattle.client_model.specs.declared.tree.Component.{Component}
 use Rattle.client_model.specs.declared.tree.New.{New}
+use Rattle.client_model.specs.declared.tree.Rhs.{Rhs}
 use Rattle.client_model.specs.declared.tree.Rhs.TheVariants as rhs
 use Rattle.easl_heap.specs.Body.{argument_count}
+use Rattle.easl_model.specs.Checked.{IsChecked}
 use Rattle.easl_model.specs.Form.{Form, constructor_of}
 use Rattle.easl_model.specs.declared.form.Method.{Method}
+use Rattle.easl_model.proofs.Given.{class_given}
 use Rattle.straight_main.specs.Holding.{kept}
 use Rattle.straight_main.specs.Making.{Calls, Fit, IsMade}
 use Rattle.straight_main.specs.declared.scope.Variable as table
@@ -94,3 +98,23 @@ no_method form c x found class number m other held of named there misfit calls =
     let is : Some (callee_of number m) ≡ Some other = sym (method_called form c x scope.0 class number m scope.1 (ap (λ u. u.class) scope.2 ∙ of) named there) ∙ calls.called in
     let same : callee_of number m ≡ other = cc in
     misfit (rw (← same) at calls.fit)
+
+-- what is called with a class as its result gives a value
+numbered_gives : (form : Form) (number : ℕ) (m : Callee) (class : ℕ) → IsChecked form → numbered form number ≡ Some m → m.result ≡ Some class → m.gives ≡ true
+numbered_gives form number m class checked is some = by (slice_get form.methods number) refl is
+  where
+    by : (o : Option Method) → slice_get form.methods number ≡ o → option_map (callee_of number) o ≡ Some m → m.gives ≡ true
+    by None there is' = absurd cc
+    by (Some k) there is' =
+        let same : callee_of number k ≡ m = cc in
+        sym (ap (λ x. x.gives) same) ∙ class_given form number k class checked there (ap (λ x. x.result) same ∙ some)
+
+pub callee_gives : (form : Form) (c : Context) (v : Rhs) (m : Callee) (class : ℕ) → IsChecked form → callee form c v ≡ Some m → m.result ≡ Some class → m.gives ≡ true
+callee_gives form c (rhs.Copy w) m class checked called some = absurd cc
+callee_gives form c (rhs.New x) m class checked called some =
+    option_and_then_some (λ k. numbered form (constructor_of form k)) (class_named form x.class.name) m called
+    (λ k named is. numbered_gives form (constructor_of form k) m class checked is some)
+callee_gives form c (rhs.Component x) m class checked called some =
+    option_and_then_some (numbered form) (option_and_then (λ k. method_named form k x.method.name) (receiver_class c x.receiver)) m called
+    (λ number named is. numbered_gives form number m class checked is some)
+callee_gives form c (rhs.Call x) m class checked called some = absurd cc

@@ -1,8 +1,8 @@
 -- Where a statement's call fits, no rule is broken at it.
 use Rattle.std.proofs.Common.{◌≡◌, ◌≢◌, ℕ, zero, suc, true, false, List, [], ◌∷◌, ap, arith, length, refl, subst, sym, ◌∙◌}
 use Rattle.std.proofs.lemmas.Slice.Zip.{AllZip-long}
-use Rattle.std.specs.Prelude.{Contains, Option, Some, None, if◌then◌else◌, option_and_then, option_map, slice_get}
-use Rattle.client_model.specs.Calls.{arguments, callee, operands, receiver_class, taken_as, value_class, value_in, variable_class, word_class}
+use Rattle.std.specs.Prelude.{Contains, Option, Some, None, IsSome, if◌then◌else◌, option_and_then, option_map, slice_get}
+use Rattle.client_model.specs.Calls.{Asks, arguments, callee, operands, receiver_class, taken_as, value_class, value_in, variable_class, word_class}
 use Rattle.client_model.specs.Contexts.{Context, Situated, Variable, variable_named}
 use Rattle.client_model.specs.Lookups.{Callee, class_named, is_literal, method_named, numbered}
 use Rattle.client_model.specs.Rules.{HasDuplicate, HasMismatch, HasUnknown, HasUnset, IsFaultIn, Reads, Rule}
@@ -82,12 +82,14 @@ read_there form s v m w stands call calls (rules_of.operand v' w' is among name)
     let t = fits_some s.context (arguments v) m.params w calls.fit within in
     has_variable s.context w t.0 (has_class s.context w t.0 name t.1)
 
--- the statement declares no unknown class, and assigns no unknown variable
+-- the statement declares no unknown class, assigns no unknown variable, takes a value of its type and asks nothing
 pub record KnowsTarget (form : Form) (s : Situated) : Type 0 where
   pub type : (w name : Word) (v : Option Rhs) → s.statement ≡ Declare (sort.Class w) name v → class_named form w.name ≢ None
   pub new : (of : Sort) (w : Word) (v : Option Rhs) → s.statement ≡ Declare of w v → variable_named s.context w.name ≡ None
   pub assigned : (w : Word) (v : Rhs) → s.statement ≢ Assign w v
   pub value : (v : Rhs) (given taken : Option ℕ) → value_in s.statement ≡ Some v → value_class form s.context v ≡ Some given → taken_as form s.context s.statement ≡ Some taken → given ≡ taken
+  pub given : (v : Rhs) (m : Callee) → value_in s.statement ≡ Some v → callee form s.context v ≡ Some m → IsSome (taken_as form s.context s.statement) → m.gives ≡ true
+  pub plain : Asks s.statement → ⊥
 
 no_unknown : (form : Form) (s : Situated) (v : Rhs) (m : Callee) (p : Place) → value_in s.statement ≡ Some v → IsCall v → Calls form s.context v m → KnowsTarget form s → HasUnknown form s p → ⊥
 no_unknown form s v m p stands call calls target (rules_of.type w name u is none) = target.type w name u is none
@@ -109,6 +111,9 @@ no_unknown form s v m p stands call calls target (rules_of.method x class is of 
 
 no_mismatch : (form : Form) (s : Situated) (v : Rhs) (m : Callee) (p : Place) → value_in s.statement ≡ Some v → IsCall v → Calls form s.context v m → KnowsTarget form s → HasMismatch form s p → ⊥
 no_mismatch form s v m p stands call calls target (rules_of.value u given taken is of taken_is other) = other (target.value u given taken is of taken_is)
+no_mismatch form s v m p stands call calls target (rules_of.no_value u k other taken none) =
+    let e : false ≡ true = sym none ∙ target.given u k other.stands other.called taken in absurd cc
+no_mismatch form s v m p stands call calls target (rules_of.test x k asks other unlike) = target.plain asks
 no_mismatch form s v m p stands call calls target (rules_of.argument u k i w given taken other at at_params of differs) =
     let same : u ≡ v = cc in
     let e : Some k ≡ Some m = sym other.called ∙ ap (callee form s.context) same ∙ calls.called in

@@ -85,6 +85,7 @@ come form done x c w new p site before added =
     let number : 0 + count done ≡ length w.points = omega (arith, before.point_count) in
     let step : node_at (0 + count done) x ≡ nodes.Step (length w.points) = added.node (0 + count done) ∙ ap nodes.Step number in
     record {
+      checked = before.checked;
       in_range = before.in_range;
       holds = rw context added.holds;
       assigned = rw context added.assigned;

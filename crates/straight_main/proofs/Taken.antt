@@ -5,7 +5,7 @@ use Rattle.std.specs.BTreeMap.{BTreeMap}
 use Rattle.std.specs.declared.alloc.Global.{Global}
 use Rattle.std.specs.Prelude.{Contains, String, Option, Some, None, IsSome, cond, eqb, not, option_map}
 use Rattle.std.specs.Option.{option_eq}
-use Rattle.client_model.specs.Calls.{place_of, value_class}
+use Rattle.client_model.specs.Calls.{callee, place_of, value_class}
 use Rattle.client_model.specs.Contexts.{Context, after, call_count, variable_named}
 use Rattle.client_model.specs.Lookups.{Callee, class_named, is_same}
 use Rattle.client_model.specs.Nodes as nodes
@@ -20,10 +20,12 @@ use Rattle.client_model.specs.declared.tree.Component.{Component}
 use Rattle.client_model.specs.declared.tree.Rhs.{Rhs}
 use Rattle.client_model.specs.declared.tree.Rhs.TheVariants as rhs
 use Rattle.client_run.specs.Straight.{CallFits}
+use Rattle.easl_model.specs.Checked.{IsChecked}
 use Rattle.easl_model.specs.Form.{Form}
 use Rattle.easl_model.specs.declared.tree.Sort.TheVariants as sort
 use Rattle.easl_model.specs.declared.tree.Word.{Word}
 use Rattle.straight_main.proofs.Broken.{call_broken}
+use Rattle.straight_main.proofs.Callees.{callee_gives}
 use Rattle.straight_main.proofs.Found.{same_is}
 use Rattle.straight_main.proofs.Sound.{KnowsTarget, no_fault}
 use Rattle.straight_main.proofs.Steps.{IsAdded, come, site_is}
@@ -48,6 +50,8 @@ target_of_action form c v = record {
   new = λ of w u is. absurd cc;
   assigned = λ w u is. absurd cc;
   value = λ u given taken stands is none. absurd cc;
+  given = λ u m stands called none. absurd cc;
+  plain = λ asks. asks;
 }
 
 action_added : (form : Form) (so_far : Statements) (x : Component) (w new : Walk) (made : Made) → HasCome form so_far w → IsMade form (behind form so_far) (rhs.Component x) made → IsPut None made w new → IsAdded form so_far (Do (rhs.Component x)) (record (behind form so_far) { calls = (behind form so_far).calls + 1 }) w new (point.Component None (length w.calls)) (site_of made (length w.points))
@@ -135,8 +139,8 @@ class_of_call form c (rhs.New x) made call is = ap (option_map (λ m. m.result))
 class_of_call form c (rhs.Component x) made call is = ap (option_map (λ m. m.result)) is.calls.called ∙ ap Some (sym is.result)
 class_of_call form c (rhs.Call x) made call is = absurd call
 
-target_of_declaration : (form : Form) (c : Context) (class name : Word) (v : Rhs) (made : Made) (wanted : ℕ) → IsCall v → IsMade form c v made → class_named form class.name ≡ Some wanted → made.result ≡ Some wanted → variable_named c name.name ≡ None → KnowsTarget form (record { context = c; statement = Declare (sort.Class class) name (Some v) })
-target_of_declaration form c class name v made wanted call is named result new = record {
+target_of_declaration : (form : Form) (c : Context) (class name : Word) (v : Rhs) (made : Made) (wanted : ℕ) → IsChecked form → IsCall v → IsMade form c v made → class_named form class.name ≡ Some wanted → made.result ≡ Some wanted → variable_named c name.name ≡ None → KnowsTarget form (record { context = c; statement = Declare (sort.Class class) name (Some v) })
+target_of_declaration form c class name v made wanted checked call is named result new = record {
   type = λ w other u same none.
       let one : class ≡ w = cc in
       let e : Some wanted ≡ None = sym named ∙ ap (λ x. class_named form x.name) one ∙ none in
@@ -150,6 +154,12 @@ target_of_declaration form c class name v made wanted call is named result new =
       let first : given ≡ made.result = cc in
       let second : taken ≡ Some wanted = cc in
       first ∙ result ∙ sym second;
+  given = λ u m stands called some.
+      let one : v ≡ u = cc in
+      let calls : Some m ≡ Some is.m = sym called ∙ ap (callee form c) (sym one) ∙ is.calls.called in
+      let same : m ≡ is.m = cc in
+      callee_gives form c u m wanted checked called (ap (λ k. k.result) same ∙ sym is.result ∙ result);
+  plain = λ asks. asks;
 }
 
 declaration_added : (form : Form) (so_far : Statements) (w mid new : Walk) (class name : Word) (v : Rhs) (made : Made) (wanted : ℕ) → HasCome form so_far w → IsFound form w mid.table class name v made wanted → mid.variables ≡ w.variables ++ Some wanted ∷ [] → mid.points ≡ w.points → mid.shape ≡ w.shape → mid.calls ≡ w.calls → IsPut (Some (4 * length w.variables + 1)) made mid new → IsAdded form so_far (Declare (sort.Class class) name (Some v)) (with_variable (behind form so_far) name.name wanted) w new (point.Component (Some (4 * length w.variables + 1)) (length w.calls)) (site_of made (length w.points))
@@ -184,7 +194,7 @@ declaration_taken form w mid new class name v made wanted found variables points
     let made_is = found.made_is c before.holds in (
       come form so_far x (with_variable c name.name wanted) w new (point.Component (Some (4 * length w.variables + 1)) (length w.calls)) (site_of made (length w.points)) before (declaration_added form so_far w mid new class name v made wanted before found variables points shape calls put),
       straight_call v found.call,
-      no_fault form (next_to form so_far x) v made_is.m refl found.call made_is.calls before.assigned (target_of_declaration form c class name v made wanted found.call made_is found.class_is found.result (found.new c before.holds)),
+      no_fault form (next_to form so_far x) v made_is.m refl found.call made_is.calls before.assigned (target_of_declaration form c class name v made wanted before.checked found.call made_is found.class_is found.result (found.new c before.holds)),
     )
   where
     straight_call : (v : Rhs) → IsCall v → IsStraight (Declare (sort.Class class) name (Some v))

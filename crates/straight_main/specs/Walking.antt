@@ -8,7 +8,7 @@ use Rattle.client_model.specs.Straight.{IsStraight}
 use Rattle.client_model.specs.declared.form.Node.{Node}
 use Rattle.client_model.specs.declared.form.Point.TheVariants.{Component}
 use Rattle.client_run.specs.Straight.{CallFits, steps_from}
-use Rattle.easl_model.specs.Checked.{IsInRange}
+use Rattle.easl_model.specs.Checked.{IsChecked, IsInRange}
 use Rattle.easl_model.specs.Form.{Form}
 use Rattle.straight_main.specs.Holding.{Holds}
 use Rattle.straight_main.specs.Making.{IsBroken, IsSound}
@@ -26,6 +26,7 @@ behind form done = after_all form nothing_yet done
 
 -- the code has come behind these statements
 pub record HasCome (form : Form) (done : Statements) (w : Walk) : Type 0 where
+  pub checked : IsChecked form
   pub in_range : IsInRange form
   pub holds : Holds (behind form done) w.table
   pub assigned : (name : List ℕ) (v : Variable) → variable_named (behind form done) name ≡ Some v → Contains (behind form done).assigned v.number

@@ -16,5 +16,5 @@ returns-clause-method c =
     (rw c.as_slice.ensures at c.in_ok-param_names.ensures.names)
     (rw (c.as_slice.ensures, c.as_slice-2.ensures) at c.in_ok-clauses.ensures.each)
     (rw (c.as_slice.ensures, c.as_slice-3.ensures) at c.in_ok-assignments.ensures.each)
-    refl refl
+    refl refl refl
     (rw c.as_slice.ensures at c.in_ok-left_out.ensures.fits)

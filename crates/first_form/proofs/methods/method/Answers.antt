@@ -17,4 +17,5 @@ returns-clause-method c =
     (rw (c.as_slice.ensures, c.as_slice-2.ensures) at c.in_ok-clauses.ensures.each)
     (rw (c.as_slice.ensures, c.as_slice-3.ensures) at c.in_ok-assignments.ensures.each)
     c.in-Some.ensures.sort
+    c.gives_value.ensures
     (rw c.as_slice.ensures at c.in_ok-returned.ensures.returns)

@@ -1,6 +1,14 @@
 use Rattle.std.proofs.Common.{rules, ◌≢◌, Some, sym, ◌∙◌}
-use Rattle.straight_main.proofs.Taken.{declaration_taken, differs, value_refused}
+use Rattle.straight_main.proofs.Taken.{call_refused, declaration_taken, differs, name_refused, value_refused}
 use Rattle.straight_main.proofs.walk.declared.Goals as goal
+
+pub returns-in_err-made-clause-refuses : goal.returns-in_err-made-clause-refuses
+returns-in_err-made-clause-refuses c e =
+    call_refused c.args.spec.now c.args.walk.now c.args.class.now c.args.name.now c.args.value.now (c.in_err-made.ensures.refused (search rules))
+
+pub returns-in_err-declare-clause-refuses : goal.returns-in_err-declare-clause-refuses
+returns-in_err-declare-clause-refuses c e =
+    name_refused c.args.spec.now c.args.walk.now c.args.class.now c.args.name.now c.args.value.now (c.in_err-declare.ensures.refused (search rules))
 
 pub returns-then-ne-clause-refuses : goal.returns-then-ne-clause-refuses
 returns-then-ne-clause-refuses c e =
