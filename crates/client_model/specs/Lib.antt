@@ -1,10 +1,13 @@
 pub mod Calls
+pub mod Checked
 pub mod Contexts
 pub mod Grammar
 pub mod Lookups
 pub mod Nodes
 pub mod Points
+pub mod Program
 pub mod Rules
+pub mod SoleMain
 pub mod Spelling
 pub mod Statements
 pub mod Straight

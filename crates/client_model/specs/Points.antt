@@ -5,7 +5,7 @@ use Rattle.client_model.specs.Calls.{callee, place_of, value_in}
 use Rattle.client_model.specs.Contexts.{Context, Situated, Variable, nothing_yet, situated, variable_named}
 use Rattle.client_model.specs.Lookups.{class_of, is_literal}
 use Rattle.client_model.specs.Nodes.{shape_from, tree_of, trees}
-use Rattle.client_model.specs.declared.program.Program.{Program}
+use Rattle.client_model.specs.Program.{Program}
 use Rattle.client_model.specs.Statements.{Statement, Statements, Declare, Assign, Do, If, While}
 use Rattle.client_model.specs.declared.form.CallSite.{CallSite}
 use Rattle.client_model.specs.declared.form.Point.{Point}

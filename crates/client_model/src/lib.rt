@@ -2,10 +2,10 @@
 //! for names.
 #![tactic(auto)]
 
+mod checked;
 mod form;
-mod program;
 mod tree;
 
+pub use checked::CheckedClient;
 pub use form::{CallSite, Node, Point, Procedure};
-pub use program::Program;
 pub use tree::{Call, Client, Component, New, Proc, Return, Rhs, Static, Stmt, Test};

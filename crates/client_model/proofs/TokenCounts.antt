@@ -1,0 +1,87 @@
+-- Each token takes a byte of the text, and each statement a token.
+use Rattle.std.proofs.Common.{◌≡◌, ℕ, suc, ◌+◌, ◌≤◌, Bool, List, [], ◌∷◌, ◌++◌, IsUtf8, chars, length, sym, ap, ◌∙◌, subst, arith, length-append}
+use Rattle.std.specs.Prelude.{None, Some, false, true}
+use Rattle.std.proofs.lemmas.Str.{chars-encodes, length-le-encodes}
+use Rattle.client_model.proofs.PlainStatements.{plain, plain_assign, plain_declare, plain_do, plain_if, plain_while}
+use Rattle.client_model.specs.Grammar.{IsBlock, IsClient, IsItems, IsProc, IsStmt, IsStmts, act, assign, block, client, declare, declare_set, if_alone, if_else, next_procedure, next_static, next_stmt, no_items, no_stmts, procedure, while}
+use Rattle.client_model.specs.Nodes.{count, count_in}
+use Rattle.client_model.specs.Statements.{statement_of}
+use Rattle.client_model.specs.declared.tree.Client.{Client}
+use Rattle.client_model.specs.declared.tree.Proc.{Proc}
+use Rattle.client_model.specs.declared.tree.Static.{Static}
+use Rattle.client_model.specs.declared.tree.Stmt.{Stmt}
+use Rattle.client_model.specs.declared.tree.Stmt.TheVariants as stmt
+use Rattle.easl_model.proofs.Words.{token_some}
+use Rattle.easl_model.specs.Tokens.{AreTokens, Cut, byte_len, done, gap, token}
+use Rattle.easl_model.specs.declared.place.Place.{Place}
+use Rattle.easl_model.specs.declared.token.Token.{Token}
+use Rattle.easl_model.specs.declared.token.Tokens.{Tokens}
+
+few_in_cut : (before cs : List ℕ) (ts : List Token) → Cut before cs ts → length ts ≤ length cs
+few_in_cut _ _ _ (done before) = omega arith
+few_in_cut _ _ _ (gap before cs rest ts is more) = omega (arith, few_in_cut (before ++ cs) rest ts more, length-append cs rest)
+few_in_cut _ _ _ (token k before [] rest ts longest more) = absurd (token_some k longest.is_token)
+few_in_cut _ _ _ (token k before (c ∷ cs) rest ts longest more) =
+    omega (arith, few_in_cut (before ++ c ∷ cs) rest ts more, length-append cs rest)
+
+chars_size : (text : List ℕ) → IsUtf8 text → byte_len (chars text) ≡ length text
+chars_size text u =
+    let decoded : chars text ≡ u.0 = ap chars (sym u.1.1) ∙ chars-encodes u.0 u.1.0 in
+    ap byte_len decoded ∙ ap length u.1.1
+
+pub few_tokens : (text : List ℕ) (tokens : Tokens) → AreTokens text tokens → length tokens.list ≤ length text
+few_tokens text tokens are =
+    omega (arith, few_in_cut [] (chars text) tokens.list are.cut, length-le-encodes (chars text), chars_size text are.utf8)
+
+module _ (text : List ℕ) where
+  mutual
+    pub few_in_stmt : (ts : List Token) (x : Stmt) → IsStmt text ts x → count_in (statement_of x) ≤ length ts
+    few_in_stmt _ _ (declare {name = t} {semicolon = k} {n = n} {ts = ts} {s = s} type name last) =
+        let one : count_in (statement_of (stmt.Declare s n None)) ≡ 1 = ap count_in (plain_declare s n None) in
+        omega (arith, one, length-append ts (t ∷ k ∷ []))
+    few_in_stmt _ _ (declare_set {name = t} {n = n} {ts = ts} {us = us} {s = s} {x = v} type name value) =
+        let one : count_in (statement_of (stmt.Declare s n (Some v))) ≡ 1 = ap count_in (plain_declare s n (Some v)) in
+        omega (arith, one, length-append ts (t ∷ us))
+    few_in_stmt _ _ (assign {n = n} {x = v} name value) = let one : count_in (statement_of (stmt.Assign n v)) ≡ 1 = ap count_in (plain_assign n v) in omega (arith, one)
+    few_in_stmt _ _ (act {semicolon = k} {ts = ts} {x = v} action last) =
+        let one : count_in (statement_of (stmt.Do v)) ≡ 1 = ap count_in (plain_do v) in omega (arith, one, length-append ts (k ∷ []))
+    few_in_stmt _ _ (if_alone {ts = ts} {us = us} {t = t} {xs = xs} key asked first) =
+        let all : count_in (statement_of (stmt.If t xs [] false)) ≡ suc (count (plain xs) + 0) = ap count_in (plain_if t xs [] false) in
+        omega (arith, all, length-append ts us, few_in_block us xs first)
+    few_in_stmt _ _ (if_else {other = k} {ts = ts} {us = us} {vs = vs} {t = t} {xs = xs} {ys = ys} key asked first other second) =
+        let all : count_in (statement_of (stmt.If t xs ys true)) ≡ suc (count (plain xs) + count (plain ys)) = ap count_in (plain_if t xs ys true) in
+        omega (arith, all, length-append ts (us ++ k ∷ vs), length-append us (k ∷ vs), few_in_block us xs first, few_in_block vs ys second)
+    few_in_stmt _ _ (while {ts = ts} {us = us} {t = t} {xs = xs} key asked inner) =
+        let all : count_in (statement_of (stmt.While t xs)) ≡ suc (count (plain xs)) = ap count_in (plain_while t xs) in
+        omega (arith, all, length-append ts us, few_in_block us xs inner)
+
+    few_in_block : (ts : List Token) (xs : List Stmt) → IsBlock text ts xs → count (plain xs) ≤ length ts
+    few_in_block _ _ (block {end = k} {ts = ts} {xs = xs} begin inner end) = omega (arith, length-append ts (k ∷ []), few_in_stmts ts xs inner)
+
+    pub few_in_stmts : (ts : List Token) (xs : List Stmt) → IsStmts text ts xs → count (plain xs) ≤ length ts
+    few_in_stmts _ _ no_stmts = omega arith
+    few_in_stmts _ _ (next_stmt {ts = ts} {us = us} {x = x} {xs = xs} first rest) =
+        omega (arith, length-append ts us, few_in_stmt ts x first, few_in_stmts us xs rest)
+
+  few_in_proc : (ts : List Token) (p : Proc) → IsProc text ts p → count (plain p.body) ≤ length ts
+  few_in_proc _ _ (procedure {name = t} {begin = b} {end = e} {rs = rs} {ts = ts} {us = us} {vs = vs} {xs = xs} gives name takes begin body last end) =
+      omega (
+        arith,
+        few_in_stmts us xs body,
+        length-append rs (t ∷ (ts ++ b ∷ (us ++ (vs ++ e ∷ [])))),
+        length-append ts (b ∷ (us ++ (vs ++ e ∷ []))),
+        length-append us (vs ++ e ∷ []),
+      )
+
+  few_in_items : (ts : List Token) (xs : List Static) (ys : List Proc) (order : List Bool) (p : Proc) → IsItems text ts xs ys order → ys ≡ p ∷ [] → count (plain p.body) ≤ length ts
+  few_in_items _ _ _ _ p no_items only = absurd cc
+  few_in_items _ _ _ _ p (next_static {ts = ts} {us = us} {xs = xs} {ys = ys} {order = order} first rest) only =
+      omega (arith, length-append ts us, few_in_items us xs ys order p rest only)
+  few_in_items _ _ _ _ p (next_procedure {ts = ts} {us = us} {y = y} first rest) only =
+      let same : y ≡ p = cc in
+      let few : count (plain p.body) ≤ length ts = subst (λ (q : Proc). count (plain q.body) ≤ length ts) same (few_in_proc ts y first) in
+      omega (arith, length-append ts us)
+
+  -- the only procedure of a client has no more statements than there are tokens
+  pub few_in_client : (end : Place) (ts : List Token) (c : Client) (p : Proc) → IsClient text end ts c → c.procedures ≡ p ∷ [] → count (plain p.body) ≤ length ts
+  few_in_client end ts c p (client {xs = xs} {ys = ys} {order = order} items) only = few_in_items ts xs ys order p items only
