@@ -3,7 +3,7 @@ use Rattle.std.proofs.Common.{◌≡◌, ◌≢◌, ℕ, suc, ◌+◌, ◌-◌, 
 use Rattle.std.specs.Prelude.{if◌then◌else◌, nat_le}
 use Rattle.std.proofs.lemmas.Bool.{le-leb, leb-true}
 use Rattle.client_model.specs.Nodes.{Tree, Trees, While, tree_of, trees}
-use Rattle.client_model.specs.declared.program.Program.{Program}
+use Rattle.client_model.specs.Program.{Program}
 use Rattle.client_run.specs.Laws.{MoreKeeps}
 use Rattle.client_run.specs.Run.{Cut, Deed, Broke, Did, Does, IsRun, Moment, Outcome, Passes, Result, Runs, RunsAll, State, Stops, Takes, charged, cut, done_at, goes_on, if_false, if_short, if_stops, if_true, no_more, outcome_of, start, step, stops, while_again, while_ends, while_left, while_short, while_stops}
 use Rattle.easl_model.specs.Form.{Form}

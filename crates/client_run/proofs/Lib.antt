@@ -1,4 +1,5 @@
 pub mod Budgets
+pub mod Clients
 pub mod Once
 pub mod Rows
 pub mod SameRuns

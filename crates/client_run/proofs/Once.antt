@@ -1,7 +1,7 @@
 -- There is a run, and only one: by induction on the units, and on the statements.
 use Rattle.std.proofs.Common.{◌≡◌, ℕ, zero, suc, ◌<◌, ◌≤◌, Bool, true, false, List, [], ◌∷◌, map, refl, sym, ap, subst, ◌∙◌, arith}
 use Rattle.client_model.specs.Nodes.{Tree, Trees, Step, If, While, end, tree_of, trees, ◌▹◌}
-use Rattle.client_model.specs.declared.program.Program.{Program}
+use Rattle.client_model.specs.Program.{Program}
 use Rattle.client_run.proofs.Budgets.{Within, charged_within}
 use Rattle.client_run.specs.Laws.{RunsOnce}
 use Rattle.client_run.specs.Machine.{comes_at, point_of}

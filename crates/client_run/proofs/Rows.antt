@@ -8,7 +8,7 @@ use Rattle.client_model.specs.Nodes.{Step, ◌▹◌}
 use Rattle.client_model.specs.declared.form.CallSite.{CallSite}
 use Rattle.client_model.specs.declared.form.Point.{Point}
 use Rattle.client_model.specs.declared.form.Point.TheVariants as point
-use Rattle.client_model.specs.declared.program.Program.{Program}
+use Rattle.client_model.specs.Program.{Program}
 use Rattle.client_run.specs.Run.{Cut, Deed, Broke, Did, Does, Fails, IsSafe, Moment, Passes, Result, Runs, RunsAll, State, Stops, answered, charged, cut, done, done_at, at_first, goes_on, made, no_more, object_of, outcome_of, start, step, stops}
 use Rattle.easl_heap.specs.Clause.{requires_of}
 use Rattle.client_run.specs.Straight.{Finds, IsStraight, failure_behind, failure_from, steps_from}

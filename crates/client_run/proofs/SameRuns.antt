@@ -5,7 +5,7 @@ use Rattle.std.specs.Option.{option_map_or}
 use Rattle.client_model.specs.Nodes.{Tree, Trees, tree_of, trees}
 use Rattle.client_model.specs.declared.form.Point.{Point}
 use Rattle.client_model.specs.declared.form.Point.TheVariants as point
-use Rattle.client_model.specs.declared.program.Program.{Program}
+use Rattle.client_model.specs.Program.{Program}
 use Rattle.client_run.specs.Run.{Deed, Did, Does, IsRun, IsSafe, Moment, Outcome, Result, Runs, RunsAll, State, called, charged, cut, done, done_at, goes_on, if_false, if_short, if_stops, if_true, made, no_more, start, step, stops, while_again, while_ends, while_left, while_short, while_stops}
 use Rattle.client_run.specs.Run as runs
 use Rattle.easl_model.specs.Form.{Form}

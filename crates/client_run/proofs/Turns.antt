@@ -1,7 +1,7 @@
 -- Turns, backward: what the rest of a run comes to, the run comes to from the turn before.
 use Rattle.std.proofs.Common.{◌≡◌, ℕ, zero, suc, ◌+◌, ◌*◌, ◌<◌, Bool, true, false, List, [], ◌∷◌, length, map, refl, subst, arith}
 use Rattle.client_model.specs.Nodes.{Tree, Trees, Step, If, While, end, tree_of, trees, ◌▹◌}
-use Rattle.client_model.specs.declared.program.Program.{Program}
+use Rattle.client_model.specs.Program.{Program}
 use Rattle.client_run.proofs.Budgets.{Within, charged_within}
 use Rattle.client_run.specs.Machine.{Place, On, Over, Turn, after, chosen, comes_at, goes, moment, place, point_of, turn_from, turn_of}
 use Rattle.client_run.specs.Run.{Cut, Does, Ends, IsRun, Moment, Outcome, Passes, Result, Runs, RunsAll, Short, Stops, Takes, at_first, charged, cut, done_at, goes_on, if_false, if_short, if_stops, if_true, no_more, outcome_of, step, stops, while_again, while_ends, while_left, while_short, while_stops}

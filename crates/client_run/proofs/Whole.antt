@@ -1,6 +1,6 @@
 -- A whole run, from turn to turn.
 use Rattle.std.proofs.Common.{◌≡◌, ℕ, ◌+◌, ◌*◌, ◌<◌, Bool, List, length, Err}
-use Rattle.client_model.specs.declared.program.Program.{Program}
+use Rattle.client_model.specs.Program.{Program}
 use Rattle.client_run.proofs.Turns.{Finishes, goes_back, is_over, measure, on_lowers}
 use Rattle.client_run.specs.Answers.{Answers}
 use Rattle.client_run.specs.Machine.{Finds, On, Place, place_in, turn_of}

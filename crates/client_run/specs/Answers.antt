@@ -1,7 +1,7 @@
 -- What is answered of a run.
 use Rattle.std.specs.Prelude.{ℕ, Bool, List, Ok, Err}
 use Rattle.std.specs.Prelude as prelude
-use Rattle.client_model.specs.declared.program.Program.{Program}
+use Rattle.client_model.specs.Program.{Program}
 use Rattle.client_run.specs.Run.{Cut, Ends, Fails, IsRun, Outcome, Short}
 use Rattle.client_run.specs.declared.runner.Outcome as made
 use Rattle.client_run.specs.declared.runner.Outcome.TheVariants as ending

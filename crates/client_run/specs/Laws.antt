@@ -1,6 +1,6 @@
 -- Laws on runs.
 use Rattle.std.specs.Prelude.{◌≡◌, ◌≢◌, ℕ, ◌≤◌, Bool, List}
-use Rattle.client_model.specs.declared.program.Program.{Program}
+use Rattle.client_model.specs.Program.{Program}
 use Rattle.client_run.specs.Run.{Cut, IsRun, Outcome}
 use Rattle.easl_model.specs.Form.{Form}
 

@@ -3,7 +3,7 @@ use Rattle.std.specs.Prelude.{◌≡◌, ℕ, zero, suc, Bool, true, false, List
 use Rattle.std.specs.Prelude as prelude
 use Rattle.client_model.specs.Nodes.{Tree, Trees, Step, If, While, end, tree_of, trees, ◌▹◌}
 use Rattle.client_model.specs.declared.form.Node.{Node}
-use Rattle.client_model.specs.declared.program.Program.{Program}
+use Rattle.client_model.specs.Program.{Program}
 use Rattle.client_run.specs.Answers.{outcome_told}
 use Rattle.client_run.specs.Run.{Cut, Ends, Fails, Moment, Outcome, Passes, Result, Short, State, Stops, charged, done_at}
 use Rattle.client_run.specs.declared.runner.Outcome as made

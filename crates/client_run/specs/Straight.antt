@@ -3,7 +3,7 @@ use Rattle.std.specs.Prelude.{◌≡◌, ℕ, suc, ◌<◌, List, [], ◌∷◌,
 use Rattle.client_model.specs.Nodes.{Trees, Step, end, tree_of, trees, ◌▹◌}
 use Rattle.client_model.specs.declared.form.CallSite.{CallSite}
 use Rattle.client_model.specs.declared.form.Point.{Point}
-use Rattle.client_model.specs.declared.program.Program.{Program}
+use Rattle.client_model.specs.Program.{Program}
 use Rattle.client_run.specs.Run.{Deed, Broke, Did, IsRun, IsSafe, Fails, State, done}
 use Rattle.client_run.specs.declared.straight.Failure.{Failure}
 use Rattle.easl_heap.specs.Body.{argument_count}

@@ -2,6 +2,7 @@
 #![tactic(auto)]
 
 mod laws;
+mod program;
 mod runner;
 mod state;
 mod straight;

@@ -1,12 +1,14 @@
 //! Runs of whole programs. What is left of a run is a row of statements, and the rows that follow it.
 ghost use Rattle.std.specs.Prelude.{◌≡◌, ◌∷◌, All};
 ghost use Rattle.client_model.specs.Nodes.{tree_of};
+ghost use Rattle.client_model.specs.Program.{program_of};
 ghost use Rattle.client_run.specs.Answers.{Answers};
 ghost use Rattle.client_run.specs.Machine.{Finds, On, behind_in, branched, goes, left, looped, moment_in, place, place_in, point_of, row, turn_of};
 ghost use Rattle.client_run.specs.Straight.{CallFits};
 
+use crate::program::Program;
 use crate::state::{Begun, State};
-use client_model::{Node, Program};
+use client_model::{CheckedClient, Node};
 use cv_base::Memory;
 use easl_model::CheckedSpec;
 use std::alloc::Global;
@@ -45,20 +47,20 @@ struct Runner<'a> {
     budget: u32,
 }
 
-/// Executes the program on these choices, with a budget of 10,000,000 units: one for each statement begun, for each
-/// later evaluation of a `while` test, and for each Easl statement executed. A test makes its call and then takes the
-/// next choice. It needs no stack for the program's nesting, and memory for no more than the heap, the variables and
-/// the rows of statements that stand in one another.
+/// Executes the client's `main` on these choices, with a budget of 10,000,000 units: one for each statement begun, for
+/// each later evaluation of a `while` test, and for each Easl statement executed. A test makes its call and then takes
+/// the next choice. It needs no stack for the nesting of statements, and memory for no more than the heap, the
+/// variables and the rows of statements that stand in one another.
 pub fn run(
     alloc: Global,
     spec: &CheckedSpec,
-    program: &Program,
+    client: &CheckedClient,
     choices: &[bool],
 ) -> Result<Outcome, RunFault>
-    requires { All (CallFits spec.now) program.now.calls }
-    ensures { Answers spec.now program.now choices.now 10000000 result }
+    requires { All (CallFits spec.now) client.now.calls }
+    ensures { Answers spec.now (program_of client.now) choices.now 10000000 result }
 {
-    run_within(alloc, spec, program, choices, UNITS)
+    run_within(alloc, spec, &Program::of(client), choices, UNITS)
 }
 
 /// The same with so many units.
@@ -78,7 +80,7 @@ fn run_within(
     };
     let mut runner = Runner {
         state,
-        here: program.shape.as_slice(),
+        here: program.main.shape.as_slice(),
         behind: Vec::new(alloc),
         choices,
         budget,

@@ -5,7 +5,8 @@ ghost use Rattle.client_run.specs.Machine.{Begins};
 ghost use Rattle.client_run.specs.Run.{at_first, called, done, done_at, made, object_of, with_object};
 ghost use Rattle.client_run.specs.Straight.{CallFits};
 
-use client_model::{CallSite, Point, Program};
+use crate::program::Program;
+use client_model::{CallSite, Point};
 use cv_base::Memory;
 use easl_heap::Heap;
 use easl_model::CheckedSpec;
@@ -60,7 +61,7 @@ impl State {
         ensures { IfOk result (λ s. s ≡ at_first program.now) }
     {
         let mut variables = Vec::new(alloc);
-        if variables.resize(program.variables.len(), 0).is_err() {
+        if variables.resize(program.main.variables.len(), 0).is_err() {
             return Err(Memory);
         }
         let heap = Heap::new(alloc);
@@ -116,7 +117,7 @@ impl State {
         requires { All (CallFits spec.now) program.now.calls }
         ensures { IfOk result (λ d. Comes self.new d (called spec.now program.now target number self.old)) }
     {
-        match program.calls.as_slice().get(number as usize) {
+        match program.call(number) {
             Some(site) => self.make(alloc, spec, site, target, number),
             None => Ok(Deed::Did(0)),
         }
@@ -183,7 +184,7 @@ impl State {
         requires { All (CallFits spec.now) program.now.calls }
         ensures { IfOk result (λ d. Comes self.new d (done_at spec.now program.now number self.old)) }
     {
-        match program.points.as_slice().get(number as usize) {
+        match program.main.points.as_slice().get(number as usize) {
             Some(point) => self.do_at(alloc, spec, program, point),
             None => Ok(Deed::Did(0)),
         }

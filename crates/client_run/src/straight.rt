@@ -1,10 +1,12 @@
 //! Straight runs: no statement holds others, so that a run takes no choice.
 ghost use Rattle.std.specs.Prelude.{◌≡◌, ◌<◌, length, All, IfOk, IfSome};
+ghost use Rattle.client_model.specs.Program.{program_of};
 ghost use Rattle.client_run.specs.Straight.{CallFits, IsStraight, Finds, failure_from};
 ghost use Rattle.client_run.specs.Run.{at_first};
 
+use crate::program::Program;
 use crate::state::{Deed, State};
-use client_model::Program;
+use client_model::CheckedClient;
 use cv_base::Memory;
 use easl_model::CheckedSpec;
 use std::alloc::Global;
@@ -16,18 +18,18 @@ pub struct Failure {
     pub clause: u32,
 }
 
-/// Executes the statements in order, up to the first call of which a clause is false.
+/// Executes the statements of the client's `main` in order, up to the first call of which a clause is false.
 #[tactic(auto, using(crate::proofs::Rows::found))]
 pub fn run_straight(
     alloc: Global,
     spec: &CheckedSpec,
-    program: &Program,
+    client: &CheckedClient,
 ) -> Result<Option<Failure>, Memory>
-    requires calls { All (CallFits spec.now) program.now.calls }
-    requires straight { IsStraight program.now }
-    ensures { IfOk result (Finds spec.now program.now) }
+    requires calls { All (CallFits spec.now) (program_of client.now).calls }
+    requires straight { IsStraight (program_of client.now) }
+    ensures { IfOk result (Finds spec.now (program_of client.now)) }
 {
-    let failure = first_failure(alloc, spec, program)?;
+    let failure = first_failure(alloc, spec, &Program::of(client))?;
     Ok(failure)
 }
 
@@ -40,7 +42,7 @@ fn first_failure(
     ensures { IfOk result (λ found. found ≡ failure_from spec.now program.now program.now.points (at_first program.now)) }
 {
     let mut state = State::at_first(alloc, program)?;
-    'each: for point in program.points.as_slice() {
+    'each: for point in program.main.points.as_slice() {
         match state.do_at(alloc, spec, program, point)? {
             Deed::Broke(call, clause) => return Ok(Some(Failure { call, clause })),
             Deed::Did(_) => {}
