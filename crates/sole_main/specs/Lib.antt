@@ -1,0 +1,6 @@
+pub mod Checked
+pub mod Holding
+pub mod MainClient
+pub mod Making
+pub mod Reading
+pub mod Walking
