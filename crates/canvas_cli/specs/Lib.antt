@@ -1,4 +1,5 @@
 pub mod Answers
+pub mod Commands
 pub mod Headline
 pub mod Texts
 pub mod Verdicts

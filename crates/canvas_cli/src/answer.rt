@@ -1,10 +1,8 @@
 //! What a command answers, and the text and the status of each answer.
-ghost use Rattle.std.specs.Prelude.{◌≡◌, ◌++◌, IfOk, OnOk, encode_utf8_all};
-ghost use Rattle.canvas_cli.specs.Texts.{status_of, text_of, read_fault_text, not_built_text, alarm_text};
+ghost use Rattle.std.specs.Prelude.{◌≡◌};
+ghost use Rattle.canvas_cli.specs.Texts.{status_of, text_of, read_fault_text, not_built_text};
 
-use cv_base::{Memory, Status, push_bytes, push_number};
-use easl_model::{Name, Place};
-use std::alloc::Global;
+use cv_base::Status;
 
 /// Which of the texts that a command names.
 #[derive(Clone, Copy, Debug, PartialEq, Eq)]
@@ -20,7 +18,7 @@ pub enum Answer {
     Usage,
     /// The text could not be loaded.
     ReadFault(Role),
-    /// The text is not of the form that is built so far.
+    /// The text is not of the form that the command takes so far.
     NotBuilt(Role),
     /// Memory was wanted and not found.
     Memory,
@@ -28,6 +26,14 @@ pub enum Answer {
     Certified,
     /// The client breaks a clause: the text of the alarm.
     Alarm(Vec<u8>),
+    /// The run comes to its end: the text of that.
+    Ends(Vec<u8>),
+    /// The run finds no choice left at a test.
+    Short,
+    /// The run breaks a clause: the text of that.
+    Fails(Vec<u8>),
+    /// The run takes too many units.
+    Long,
 }
 
 const USAGE: &[u8] =
@@ -44,6 +50,10 @@ impl Answer {
             Answer::Memory => Status::Memory,
             Answer::Certified => Status::Fine,
             Answer::Alarm(_) => Status::Alarm,
+            Answer::Ends(_) => Status::Fine,
+            Answer::Short => Status::Fine,
+            Answer::Fails(_) => Status::Alarm,
+            Answer::Long => Status::Limit,
         }
     }
 
@@ -58,6 +68,10 @@ impl Answer {
             Answer::Memory => b"memory\n",
             Answer::Certified => b"certified\n",
             Answer::Alarm(text) => text.as_slice(),
+            Answer::Ends(text) => text.as_slice(),
+            Answer::Short => b"short\n",
+            Answer::Fails(text) => text.as_slice(),
+            Answer::Long => b"limit steps 10000000\n",
         }
     }
 }
@@ -78,37 +92,4 @@ fn not_built_line(role: Role) -> &'static [u8]
         Role::Specification => b"not built specification\n",
         Role::Client => b"not built client\n",
     }
-}
-
-/// The text of an alarm at the call at this place of a class's method, whose clause is false, and of its path,
-/// which takes no test.
-pub(crate) fn alarm_lines(
-    alloc: Global,
-    place: Place,
-    class: &Name,
-    method: &Name,
-    clause: u32,
-) -> Result<Vec<u8>, Memory>
-    ensures { IfOk result (λ v. v.items ≡ alarm_text place class.now method.now clause) }
-{
-    let mut out = Vec::new(alloc);
-    push_bytes(&mut out, b"alarm ")?;
-    push_number(&mut out, u64::from(place.line))?;
-    push_bytes(&mut out, b":")?;
-    push_number(&mut out, u64::from(place.col))?;
-    push_bytes(&mut out, b" ")?;
-    push_name(&mut out, class)?;
-    push_bytes(&mut out, b".")?;
-    push_name(&mut out, method)?;
-    push_bytes(&mut out, b" ")?;
-    push_number(&mut out, u64::from(clause))?;
-    push_bytes(&mut out, b"\n0 main:\n")?;
-    Ok(out)
-}
-
-#[tactic(auto, using(crate::proofs::Names::spelled))]
-fn push_name(out: &mut Vec<u8>, name: &Name) -> Result<(), Memory>
-    ensures { OnOk result (out.new.items ≡ out.old.items ++ encode_utf8_all name.now) }
-{
-    push_bytes(out, name.0.as_str().as_bytes())
 }

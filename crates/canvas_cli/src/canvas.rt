@@ -1,10 +1,12 @@
 //! The top call.
-ghost use Rattle.std.specs.Prelude.{◌≡◌, ◌≢◌, ◌≤◌, ℕ, List, length, MatchOption};
+ghost use Rattle.std.specs.Prelude.{◌≡◌, ◌≢◌, ◌≤◌, ℕ, List, length};
 ghost use Rattle.cv_base.specs.Causes.{Rose};
-ghost use Rattle.canvas_cli.specs.Answers.{IsCertify, IsCommand, ClientAnswers, Certifies, IsAllowed, WritesAllowed, CouldNotLoad};
-ghost use Rattle.canvas_cli.specs.Headline.{Headline, IsComplete, NotBuiltExactly};
+ghost use Rattle.canvas_cli.specs.Answers.{ClientAnswers, CouldNotLoad, IsAllowed, MayAnswer, WritesAllowed};
+ghost use Rattle.canvas_cli.specs.Commands.{IsCommand};
+ghost use Rattle.canvas_cli.specs.Headline.{Headline, IsComplete, NotBuiltExactly, RunsExactly};
 
 use crate::answer::{Answer, Role};
+use crate::command::{Command, NoCommand, read_words};
 use crate::deciding::decide;
 use crate::loading::{NoText, load};
 use crate::writing::write;
@@ -31,6 +33,7 @@ pub fn canvas<S: Shelf, W: Sink>(
     ensures whole { WritesAllowed (S.held shelf.old) (λ name. Rose (S.faults shelf.old name) (S.faults shelf.new name)) words.now
         (W.taken out.old) (W.taken out.new) (Rose (W.faults out.old) (W.faults out.new)) result }
     ensures headline { Headline (S.held shelf.old) words.now (W.taken out.old) (W.taken out.new) result }
+    ensures runs { RunsExactly (S.held shelf.old) words.now (W.taken out.old) (W.taken out.new) result }
     ensures not_built { NotBuiltExactly (S.held shelf.old) words.now (W.taken out.old) (W.taken out.new) result }
     ensures complete { IsComplete (S.held shelf.old) (λ name. Rose (S.faults shelf.old name) (S.faults shelf.new name))
         (Rose (W.faults out.old) (W.faults out.new)) words.now result }
@@ -43,53 +46,45 @@ pub fn canvas<S: Shelf, W: Sink>(
 fn answer<S: Shelf>(alloc: Global, words: &[String], shelf: &mut S) -> Answer
     ensures { IsAllowed (S.held shelf.old) (λ name. Rose (S.faults shelf.old name) (S.faults shelf.new name)) words.now result }
 {
-    match certify_words(words) {
-        Some((spec, client)) => certify(alloc, shelf, spec, client),
-        None => Answer::Usage,
+    match read_words(alloc, words) {
+        Ok(asked) => perform(alloc, shelf, &asked.command, asked.spec, asked.client),
+        Err(NoCommand::Usage) => Answer::Usage,
+        Err(NoCommand::Memory) => Answer::Memory,
     }
 }
 
-/// The names that stand behind the word `certify`.
-fn certify_words(words: &[String]) -> Option<(&str, &str)>
-    ensures { MatchOption result (IsCommand words.now → ⊥) (λ names. IsCertify words.now names.0.now names.1.now) }
-{
-    match words {
-        [command, spec, client] => {
-            if command.as_str() == "certify" {
-                Some((spec.as_str(), client.as_str()))
-            } else {
-                None
-            }
-        }
-        _ => None,
-    }
-}
-
-/// Loads both texts, and certifies the client.
-fn certify<S: Shelf>(alloc: Global, shelf: &mut S, spec: &str, client: &str) -> Answer
-    ensures { Certifies (S.held shelf.old) (λ name. Rose (S.faults shelf.old name) (S.faults shelf.new name)) spec.now client.now result }
+/// Loads both texts, and answers the command.
+fn perform<S: Shelf>(
+    alloc: Global,
+    shelf: &mut S,
+    command: &Command,
+    spec: &str,
+    client: &str,
+) -> Answer
+    ensures { MayAnswer (S.held shelf.old) (λ name. Rose (S.faults shelf.old name) (S.faults shelf.new name)) command.now spec.now client.now result }
 {
     match load(alloc, shelf, spec, Role::Specification) {
-        Ok(text) => certify_client(alloc, shelf, text.as_slice(), client),
+        Ok(text) => perform_on(alloc, shelf, command, text.as_slice(), client),
         Err(NoText::Failed) => Answer::ReadFault(Role::Specification),
         Err(NoText::TooLong) => Answer::NotBuilt(Role::Specification),
         Err(NoText::Memory) => Answer::Memory,
     }
 }
 
-/// Loads the client, and certifies it against the text of a specification.
-fn certify_client<S: Shelf>(
+/// Loads the client, and answers the command with the text of a specification.
+fn perform_on<S: Shelf>(
     alloc: Global,
     shelf: &mut S,
+    command: &Command,
     specification: &[u8],
     client: &str,
 ) -> Answer
     requires { length specification.now ≤ 65536 }
-    ensures answers { ClientAnswers specification.now (S.held shelf.old client.now) (Rose (S.faults shelf.old client.now) (S.faults shelf.new client.now)) result }
+    ensures answers { ClientAnswers command.now specification.now (S.held shelf.old client.now) (Rose (S.faults shelf.old client.now) (S.faults shelf.new client.now)) result }
     ensures later { (other : List ℕ) → S.faults shelf.old other ≤ S.faults shelf.new other }
 {
     match load(alloc, shelf, client, Role::Client) {
-        Ok(text) => decide(alloc, specification, text.as_slice()),
+        Ok(text) => decide(alloc, command, specification, text.as_slice()),
         Err(NoText::Failed) => Answer::ReadFault(Role::Client),
         Err(NoText::TooLong) => Answer::NotBuilt(Role::Client),
         Err(NoText::Memory) => Answer::Memory,

@@ -7,9 +7,9 @@ use client_run::{Outcome, run};
 use easl_heap::{Done, Heap};
 use easl_model::CheckedSpec;
 use first_form::{FormFault, read_specification};
+use sole_main::read_straight;
 use std::alloc::Global;
 use std::test::Fail;
-use straight_main::read_straight;
 
 const SETS: &[u8] = b"class Iterator {
   Set set;
@@ -163,7 +163,7 @@ fn outcome_of(alloc: Global, spec: &CheckedSpec, text: &[u8]) -> Option<Outcome>
     requires { length text.now ≤ 1048576 }
 {
     match read_straight(alloc, spec, text) {
-        Ok(program) => run(alloc, spec, &program, &[]).ok(),
+        Ok(client) => run(alloc, spec, &client, &[]).ok(),
         Err(_) => None,
     }
 }

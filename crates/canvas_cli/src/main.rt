@@ -1,13 +1,17 @@
-//! `canvas`: certifies clients of Easl specifications.
+//! `canvas`: certifies clients of Easl specifications, and runs them on chosen test outcomes.
 #![tactic(auto)]
 
 mod answer;
 mod canvas;
+mod certifying;
+mod command;
 mod deciding;
 mod disk_shelf;
 #[cfg(test)]
 mod heap_tests;
+mod lines;
 mod loading;
+mod running;
 mod std_sink;
 #[cfg(test)]
 mod tests;

@@ -46,6 +46,33 @@ const CHANGED: &[u8] = b"void main() {
 }
 ";
 
+const REMOVING: &[u8] = b"void main() {
+  Set v = new Set();
+  Iterator i1 = v.iterator();
+  Iterator i2 = v.iterator();
+  Iterator i3 = i1;
+  i1.remove();
+  if (?) { i2.next(); }
+  if (?) { i3.next(); }
+  v.add(\"x\");
+  if (?) { i1.next(); }
+}
+";
+
+const LOOPING: &[u8] = b"void main() {
+  Set v = new Set();
+  Iterator i = v.iterator();
+  while (i.hasNext()) { i.next(); v.add(\"x\"); }
+}
+";
+
+const ENDLESS: &[u8] = b"void main() { while (?) { } }";
+
+const UNKNOWN: &[u8] = b"void main() {
+  if (?) { i.next(); }
+}
+";
+
 const USAGE: &[u8] = b"usage: canvas COMMAND
 show SPEC
 derive SPEC
@@ -63,6 +90,7 @@ load N
 #[derive(Clone, Copy)]
 struct Case {
     command: &'static str,
+    choices: Option<&'static str>,
     specification: &'static [u8],
     client: &'static [u8],
     failing_load: u64,
@@ -76,12 +104,21 @@ const NO_LOAD: u64 = 9;
 
 const PLAIN: Case = Case {
     command: "certify",
+    choices: None,
     specification: SETS,
     client: STRAIGHT,
     failing_load: NO_LOAD,
     room: 1000,
     written: b"certified\n",
     status: Status::Fine,
+};
+
+const RUN: Case = Case {
+    command: "run",
+    choices: Some(""),
+    client: REMOVING,
+    written: b"short\n",
+    ..PLAIN
 };
 
 fn held(alloc: Global, name: &[u8], text: &[u8]) -> Result<Held, Fail> {
@@ -110,10 +147,18 @@ fn words(alloc: Global, command: &str) -> Result<Vec<String>, Fail> {
 
 /// The status, and what was taken.
 fn outcome(alloc: Global, case: &Case) -> Result<(Status, Vec<u8>), Fail> {
-    let words = words(alloc, case.command)?;
+    let mut words = words(alloc, case.command)?;
+    if let Some(choices) = case.choices {
+        words.push(String::from_str(alloc, choices)?)?;
+    }
+    outcome_of(alloc, words.as_slice(), case)
+}
+
+/// The same with these words.
+fn outcome_of(alloc: Global, words: &[String], case: &Case) -> Result<(Status, Vec<u8>), Fail> {
     let mut shelf = shelf(alloc, case)?;
     let mut sink = MemSink::new(alloc, case.room, Vec::new(alloc))?;
-    let status = canvas(alloc, words.as_slice(), &mut shelf, &mut sink);
+    let status = canvas(alloc, words, &mut shelf, &mut sink);
     Ok((status, Vec::from_slice(alloc, sink.taken())?))
 }
 
@@ -163,11 +208,127 @@ fn answers_of_certify(rt: HostRuntime) -> Result<(), Fail> {
             status: Status::Usage,
             ..PLAIN
         },
+        Case {
+            choices: Some("T"),
+            written: USAGE,
+            status: Status::Usage,
+            ..PLAIN
+        },
     ];
     for case in &cases {
         let (status, taken) = outcome(rt.alloc(), case)?;
         assert_eq!(rt; taken.as_slice(), case.written);
         assert_eq!(rt; status, case.status);
+    }
+    Ok(())
+}
+
+#[test]
+fn outcomes_of_runs(rt: HostRuntime) -> Result<(), Fail> {
+    let rows: [(&'static [u8], &'static str, &[u8], Status); 6] = [
+        (REMOVING, "FT", b"short\n", Status::Fine),
+        (
+            REMOVING,
+            "FTT",
+            b"fails 10:12 Iterator.next 1, 0 left\n",
+            Status::Alarm,
+        ),
+        (
+            REMOVING,
+            "T",
+            b"fails 7:12 Iterator.next 1, 0 left\n",
+            Status::Alarm,
+        ),
+        (REMOVING, "FFFT", b"ends, 1 left\n", Status::Fine),
+        (REMOVING, "", b"short\n", Status::Fine),
+        (
+            LOOPING,
+            "TT",
+            b"fails 4:25 Iterator.next 1, 0 left\n",
+            Status::Alarm,
+        ),
+    ];
+    for (client, choices, written, status) in rows {
+        let case = Case {
+            client,
+            choices: Some(choices),
+            ..RUN
+        };
+        let (found, taken) = outcome(rt.alloc(), &case)?;
+        assert_eq!(rt; taken.as_slice(), written, "{choices}");
+        assert_eq!(rt; found, status, "{choices}");
+    }
+    Ok(())
+}
+
+#[test]
+fn answers_without_a_run(rt: HostRuntime) -> Result<(), Fail> {
+    let cases = [
+        Case {
+            choices: Some("FX"),
+            written: USAGE,
+            status: Status::Usage,
+            ..RUN
+        },
+        Case {
+            choices: None,
+            written: USAGE,
+            status: Status::Usage,
+            ..RUN
+        },
+        Case {
+            client: UNKNOWN,
+            written: b"not built client\n",
+            status: Status::NotBuilt,
+            ..RUN
+        },
+        Case {
+            specification: b"",
+            written: b"not built specification\n",
+            status: Status::NotBuilt,
+            ..RUN
+        },
+        Case {
+            failing_load: 0,
+            written: b"read fault specification\n",
+            status: Status::ReadFault,
+            ..RUN
+        },
+    ];
+    for case in &cases {
+        let (status, taken) = outcome(rt.alloc(), case)?;
+        assert_eq!(rt; taken.as_slice(), case.written);
+        assert_eq!(rt; status, case.status);
+    }
+    Ok(())
+}
+
+/// So many choices, each of which is true.
+fn many_true(alloc: Global, count: u32) -> Result<String, Fail> {
+    let mut word = String::with_capacity(alloc, count as usize)?;
+    for _ in 0..count {
+        word.push('T')?;
+    }
+    Ok(word)
+}
+
+#[test]
+fn runs_have_a_limit(rt: HostRuntime) -> Result<(), Fail> {
+    let alloc = rt.alloc();
+    let rows: [(u32, &[u8], Status); 2] = [
+        (9_999_999, b"short\n", Status::Fine),
+        (10_000_000, b"limit steps 10000000\n", Status::Limit),
+    ];
+    for (count, written, status) in rows {
+        let case = Case {
+            client: ENDLESS,
+            ..RUN
+        };
+        let mut words = words(alloc, "run")?;
+        words.push(many_true(alloc, count)?)?;
+        let (found, taken) = outcome_of(alloc, words.as_slice(), &case)?;
+        assert_eq!(rt; taken.as_slice(), written, "{count}");
+        assert_eq!(rt; found, status, "{count}");
     }
     Ok(())
 }

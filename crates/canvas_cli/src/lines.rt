@@ -1,0 +1,94 @@
+//! The lines that name a clause, and the line of a run that ends.
+ghost use Rattle.std.specs.Prelude.{◌≡◌, ◌<◌, ◌++◌, All, IfOk, OnOk, encode_utf8_all, length};
+ghost use Rattle.canvas_cli.specs.Texts.{alarm_text, clause_text, ends_text, fails_text};
+ghost use Rattle.canvas_cli.specs.Verdicts.{NamesClause};
+ghost use Rattle.client_run.specs.Straight.{CallFits};
+
+use client_model::CheckedClient;
+use cv_base::{Memory, push_bytes, push_number};
+use easl_model::{CheckedSpec, Name, Place};
+use std::alloc::Global;
+
+/// The line of an alarm at the clause, and of its path, which takes no test.
+pub(crate) fn alarm_lines(alloc: Global, clause: &[u8]) -> Result<Vec<u8>, Memory>
+    ensures { IfOk result (λ v. v.items ≡ alarm_text clause.now) }
+{
+    let mut out = Vec::new(alloc);
+    push_bytes(&mut out, b"alarm ")?;
+    push_bytes(&mut out, clause)?;
+    push_bytes(&mut out, b"\n0 main:\n")?;
+    Ok(out)
+}
+
+/// The line of a run that ends with so many choices not taken.
+pub(crate) fn ends_line(alloc: Global, left: u64) -> Result<Vec<u8>, Memory>
+    ensures { IfOk result (λ v. v.items ≡ ends_text left) }
+{
+    let mut out = Vec::new(alloc);
+    push_bytes(&mut out, b"ends, ")?;
+    push_number(&mut out, left)?;
+    push_bytes(&mut out, b" left\n")?;
+    Ok(out)
+}
+
+/// The line of a run that fails at the clause with so many choices not taken.
+pub(crate) fn fails_line(alloc: Global, clause: &[u8], left: u64) -> Result<Vec<u8>, Memory>
+    ensures { IfOk result (λ v. v.items ≡ fails_text clause.now left) }
+{
+    let mut out = Vec::new(alloc);
+    push_bytes(&mut out, b"fails ")?;
+    push_bytes(&mut out, clause)?;
+    push_bytes(&mut out, b", ")?;
+    push_number(&mut out, left)?;
+    push_bytes(&mut out, b" left\n")?;
+    Ok(out)
+}
+
+/// The text of a clause of the method of this call.
+pub(crate) fn clause_of(
+    alloc: Global,
+    spec: &CheckedSpec,
+    client: &CheckedClient,
+    call: u32,
+    clause: u32,
+) -> Result<Vec<u8>, Memory>
+    requires fit { All (CallFits spec.now) client.now.calls }
+    requires within { call < length client.now.calls }
+    ensures { IfOk result (λ v. NamesClause spec.now client.now.calls call clause v.items) }
+{
+    let site = client.call(call);
+    let method = spec.method(site.method);
+    let class = spec.class_name(method.class);
+    let text = clause_line(alloc, site.place, class, &method.name, clause)?;
+    Ok(text)
+}
+
+/// The text of a clause of the call at this place, of a class's method.
+fn clause_line(
+    alloc: Global,
+    place: Place,
+    class: &Name,
+    method: &Name,
+    clause: u32,
+) -> Result<Vec<u8>, Memory>
+    ensures { IfOk result (λ v. v.items ≡ clause_text place class.now method.now clause) }
+{
+    let mut out = Vec::new(alloc);
+    push_number(&mut out, u64::from(place.line))?;
+    push_bytes(&mut out, b":")?;
+    push_number(&mut out, u64::from(place.col))?;
+    push_bytes(&mut out, b" ")?;
+    push_name(&mut out, class)?;
+    push_bytes(&mut out, b".")?;
+    push_name(&mut out, method)?;
+    push_bytes(&mut out, b" ")?;
+    push_number(&mut out, u64::from(clause))?;
+    Ok(out)
+}
+
+#[tactic(auto, using(crate::proofs::Names::spelled))]
+fn push_name(out: &mut Vec<u8>, name: &Name) -> Result<(), Memory>
+    ensures { OnOk result (out.new.items ≡ out.old.items ++ encode_utf8_all name.now) }
+{
+    push_bytes(out, name.0.as_str().as_bytes())
+}
