@@ -1,4 +1,3 @@
-pub mod Breaks
 pub mod Decided
 pub mod Headlines
 pub mod Letters

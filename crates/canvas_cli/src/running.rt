@@ -2,7 +2,7 @@
 ghost use Rattle.std.specs.Prelude.{◌≡◌, ◌<◌, ◌≤◌, ℕ, All, IfOk, length};
 ghost use Rattle.canvas_cli.specs.Verdicts.{ClientVerdict, IsAnswer, IsFailure, Tells};
 ghost use Rattle.client_model.specs.Program.{program_of};
-ghost use Rattle.client_run.specs.Answers.{outcome_told};
+ghost use Rattle.client_run.specs.Answers.{HasCall, outcome_told};
 ghost use Rattle.client_run.specs.Run.{Cut, Fails, IsRun};
 ghost use Rattle.client_run.specs.Straight.{CallFits};
 
@@ -59,7 +59,7 @@ fn told(
     outcome: Outcome,
 ) -> Result<Answer, Memory>
     requires fit { All (CallFits spec.now) client.now.calls }
-    requires within { (call clause left : ℕ) → outcome_told outcome ≡ Fails call clause left → call < length client.now.calls }
+    requires within { HasCall client.now.calls outcome }
     ensures { IfOk result (λ a. Tells spec.now (program_of client.now) a (outcome_told outcome)) }
 {
     match outcome {

@@ -1,3 +1,4 @@
+pub mod Breaks
 pub mod Budgets
 pub mod Clients
 pub mod Once

@@ -1,7 +1,8 @@
 -- What is answered of a run.
-use Rattle.std.specs.Prelude.{ℕ, Bool, List, Ok, Err}
+use Rattle.std.specs.Prelude.{ℕ, ◌<◌, Bool, List, Ok, Err, length}
 use Rattle.std.specs.Prelude as prelude
 use Rattle.client_model.specs.Program.{Program}
+use Rattle.client_model.specs.declared.form.CallSite.{CallSite}
 use Rattle.client_run.specs.Run.{Cut, Ends, Fails, IsRun, Outcome, Short}
 use Rattle.client_run.specs.declared.runner.Outcome as made
 use Rattle.client_run.specs.declared.runner.Outcome.TheVariants as ending
@@ -20,3 +21,9 @@ abbrev pub Answers : Form → Program → List Bool → ℕ → prelude.Result m
 Answers form program choices budget (Ok o) = IsRun form program choices budget (outcome_told o)
 Answers form program choices budget (Err fault.Memory) = Unit {0}
 Answers form program choices budget (Err fault.Long) = IsRun form program choices budget Cut
+
+-- a run that fails does so at a call that is there
+abbrev pub HasCall : List CallSite → made.Outcome → Type 0
+HasCall calls (ending.Ends left) = Unit {0}
+HasCall calls ending.Short = Unit {0}
+HasCall calls (ending.Fails call clause left) = call < length calls

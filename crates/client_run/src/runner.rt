@@ -1,8 +1,8 @@
 //! Runs of whole programs. What is left of a run is a row of statements, and the rows that follow it.
-ghost use Rattle.std.specs.Prelude.{◌≡◌, ◌∷◌, All};
+ghost use Rattle.std.specs.Prelude.{◌≡◌, ◌∷◌, All, IfOk};
 ghost use Rattle.client_model.specs.Nodes.{tree_of};
 ghost use Rattle.client_model.specs.Program.{program_of};
-ghost use Rattle.client_run.specs.Answers.{Answers};
+ghost use Rattle.client_run.specs.Answers.{Answers, HasCall};
 ghost use Rattle.client_run.specs.Machine.{Finds, On, behind_in, branched, goes, left, looped, moment_in, place, place_in, point_of, row, turn_of};
 ghost use Rattle.client_run.specs.Straight.{CallFits};
 
@@ -51,6 +51,7 @@ struct Runner<'a> {
 /// each later evaluation of a `while` test, and for each Easl statement executed. A test makes its call and then takes
 /// the next choice. It needs no stack for the nesting of statements, and memory for no more than the heap, the
 /// variables and the rows of statements that stand in one another.
+#[tactic(auto, using(crate::proofs::Breaks::has_call))]
 pub fn run(
     alloc: Global,
     spec: &CheckedSpec,
@@ -58,7 +59,8 @@ pub fn run(
     choices: &[bool],
 ) -> Result<Outcome, RunFault>
     requires { All (CallFits spec.now) client.now.calls }
-    ensures { Answers spec.now (program_of client.now) choices.now 10000000 result }
+    ensures outcome { Answers spec.now (program_of client.now) choices.now 10000000 result }
+    ensures call { IfOk result (HasCall client.now.calls) }
 {
     run_within(alloc, spec, &Program::of(client), choices, UNITS)
 }

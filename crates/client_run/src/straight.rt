@@ -25,7 +25,7 @@ pub fn run_straight(
     spec: &CheckedSpec,
     client: &CheckedClient,
 ) -> Result<Option<Failure>, Memory>
-    requires calls { All (CallFits spec.now) (program_of client.now).calls }
+    requires calls { All (CallFits spec.now) client.now.calls }
     requires straight { IsStraight (program_of client.now) }
     ensures { IfOk result (Finds spec.now (program_of client.now)) }
 {

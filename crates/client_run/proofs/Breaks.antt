@@ -4,17 +4,19 @@ use Rattle.std.proofs.lemmas.Option.{slice_get_within}
 use Rattle.std.specs.Prelude.{Option, Some, None, if◌then◌else◌, nat_le, slice_get}
 use Rattle.std.specs.Option.{option_map_or}
 use Rattle.client_model.specs.Nodes.{Tree, Trees}
-use Rattle.client_model.specs.Program.{ClientForm, Program, program_of}
+use Rattle.client_model.specs.Program.{Program}
 use Rattle.client_model.specs.declared.form.CallSite.{CallSite}
 use Rattle.client_model.specs.declared.form.Point.{Point}
 use Rattle.client_model.specs.declared.form.Point.TheVariants as point
-use Rattle.client_run.proofs.Clients.{keeps_calls}
+use Rattle.client_run.specs.Answers.{HasCall, outcome_told}
 use Rattle.client_run.specs.Run.{Broke, Cut, Deed, Did, Does, Ends, Fails, IsRun, Moment, Outcome, Passes, Result, Runs, RunsAll, Short, State, Stops, answered, called, charged, cut, done, done_at, goes_on, if_false, if_short, if_stops, if_true, made, no_more, object_of, outcome_of, step, stops, while_again, while_ends, while_left, while_short, while_stops}
+use Rattle.client_run.specs.declared.runner.Outcome as made
+use Rattle.client_run.specs.declared.runner.Outcome.TheVariants as ending
 use Rattle.easl_heap.specs.Clause.{requires_of}
 use Rattle.easl_model.specs.Form.{Form}
 
 -- what fails does so at one of the program's calls
-abbrev pub FailsWithin : Program → Outcome → Type 0
+abbrev FailsWithin : Program → Outcome → Type 0
 FailsWithin program (Ends left) = Unit {0}
 FailsWithin program Short = Unit {0}
 FailsWithin program (Fails call clause left) = call < length program.calls
@@ -96,10 +98,8 @@ fails_within form program choices budget o run =
     subst (FailsWithin program) (sym run.comes_to) (outcome_within program run.result (all_within form program _ _ run.result run.runs))
 
 -- the call of a run that fails
-call_within : (form : Form) (program : Program) (choices : List Bool) (budget : ℕ) (o : Outcome) → IsRun form program choices budget o → (call clause left : ℕ) → o ≡ Fails call clause left → call < length program.calls
-call_within form program choices budget o run call clause left is =
-    subst (FailsWithin program) is (fails_within form program choices budget o run)
-
-pub told_within : (form : Form) (c : ClientForm) (choices : List Bool) (budget : ℕ) (o : Outcome) → IsRun form (program_of c) choices budget o → (call clause left : ℕ) → o ≡ Fails call clause left → call < length c.calls
-told_within form c choices budget o run call clause left is =
-    subst (λ cs. call < length cs) (keeps_calls c) (call_within form (program_of c) choices budget o run call clause left is)
+pub has_call : (form : Form) (program : Program) (choices : List Bool) (budget : ℕ) (calls : List CallSite) (o : made.Outcome) → IsRun form program choices budget (outcome_told o) → program.calls ≡ calls → HasCall calls o
+has_call form program choices budget calls (ending.Ends left) run are = tt
+has_call form program choices budget calls ending.Short run are = tt
+has_call form program choices budget calls (ending.Fails call clause left) run are =
+    subst (λ cs. call < length cs) are (fails_within form program choices budget (Fails call clause left) run)
