@@ -1,7 +1,7 @@
 -- What calls are given and what they give on a full heap.
-use Rattle.std.specs.Prelude.{◌≡◌, ℕ, List, ◌∷◌, Option, Some, None, IfSome, slice_get, if◌then◌else◌}
+use Rattle.std.specs.Prelude.{◌≡◌, ℕ, List, [], ◌∷◌, Option, Some, None, IfSome, slice_get, if◌then◌else◌}
 use Rattle.std.specs.List.{AllZip}
-use Rattle.easl_model.specs.Form.{Form}
+use Rattle.easl_model.specs.Form.{Form, fields_of}
 use Rattle.easl_model.specs.declared.form.Method.{Method}
 use Rattle.easl_heap.specs.Heap.{Object, IsObjectOf}
 
@@ -25,3 +25,8 @@ AreOfClasses form method heap args = IfSome (slice_get form.methods method) (λ 
 -- the method's result is an object of its class, and 0 where the method gives none
 abbrev pub GivesClass : Form → ℕ → List Object → ℕ → Type 0
 GivesClass form method heap n = IfSome (slice_get form.methods method) (λ m. IsGiven heap m.result n)
+
+-- from a class, the fields at these positions lead to a class
+abbrev pub FieldsLead : Form → ℕ → List ℕ → ℕ → Type 0
+FieldsLead form class [] end = class ≡ end
+FieldsLead form class (p ∷ ps) end = (next : ℕ) × (slice_get (fields_of form class) p ≡ Some next) × FieldsLead form next ps end

@@ -1,0 +1,135 @@
+//! Variables, terms, literals, cubes and families.
+use smallvec::SmallVec;
+use sqlite_items::Items;
+use std::alloc::{AllocError, Global};
+use std::cmp::Ordering;
+use std::marker::Model;
+
+/// A variable of a question: 0 to 2 are x1 to x3, 3 is `this`, 4 to 7 are the parameters.
+#[derive(Clone, Copy, Debug, PartialEq, Eq)]
+pub struct Var(pub u8);
+
+/// Field positions, which contracts see as their list.
+#[derive(Debug, Drop)]
+pub struct Fields(pub SmallVec<u32, 6>);
+
+impl Model for Fields {
+    ghost use Rattle.std.specs.Prelude.{List, ℕ};
+
+    ghost Value = { List ℕ };
+
+    ghost view = { λ f. f.0.items };
+}
+
+impl Fields {
+    ghost use Rattle.std.specs.Prelude.{◌≡◌, [], ◌∷◌, ◌++◌, IfOk};
+
+    pub fn none(alloc: Global) -> Fields
+        ensures { result ≡ [] }
+    {
+        Fields(SmallVec::new(alloc))
+    }
+
+    pub fn as_slice(&self) -> &[u32]
+        ensures { result.now ≡ self.now }
+    {
+        self.0.as_slice()
+    }
+
+    pub fn twin(&self, alloc: Global) -> Result<Fields, AllocError>
+        ensures { IfOk result (λ f. f ≡ self.now) }
+    {
+        Ok(Fields(SmallVec::from_slice(alloc, self.0.as_slice())?))
+    }
+
+    /// These positions with one more behind them.
+    pub fn with(&self, alloc: Global, position: u32) -> Result<Fields, AllocError>
+        ensures { IfOk result (λ f. f ≡ self.now ++ position ∷ []) }
+    {
+        let mut fields = SmallVec::from_slice(alloc, self.0.as_slice())?;
+        fields.push(position)?;
+        Ok(Fields(fields))
+    }
+}
+
+/// What the fields lead to from the variable.
+#[derive(Debug, Drop)]
+pub struct Term {
+    pub var: Var,
+    pub fields: Fields,
+}
+
+impl Term {
+    ghost use Rattle.std.specs.Prelude.{◌≡◌, [], IfOk};
+    ghost use Rattle.access_paths.specs.Terms.{field, compare_terms};
+    ghost use Rattle.access_paths.specs.Terms as told;
+
+    /// The variable of this number.
+    pub fn variable(alloc: Global, number: u8) -> Term
+        ensures { result ≡ told.term number [] }
+    {
+        Term {
+            var: Var(number),
+            fields: Fields::none(alloc),
+        }
+    }
+
+    pub fn twin(&self, alloc: Global) -> Result<Term, AllocError>
+        ensures { IfOk result (λ t. t ≡ self.now) }
+    {
+        Ok(Term {
+            var: self.var,
+            fields: self.fields.twin(alloc)?,
+        })
+    }
+
+    /// What one more field leads to.
+    pub fn field(&self, alloc: Global, position: u32) -> Result<Term, AllocError>
+        ensures { IfOk result (λ t. t ≡ field self.now position) }
+    {
+        Ok(Term {
+            var: self.var,
+            fields: self.fields.with(alloc, position)?,
+        })
+    }
+
+    /// The order of terms: by number of fields, then variable, then field positions.
+    pub fn compare(&self, other: &Term) -> Ordering
+        ensures { result ≡ compare_terms self.now other.now }
+    {
+        let left = self.fields.as_slice();
+        let right = other.fields.as_slice();
+        left.len()
+            .cmp(&right.len())
+            .then(self.var.0.cmp(&other.var.0))
+            .then(left.cmp(right))
+    }
+}
+
+/// Whether two terms lead to one object, the lesser first. `same` tells `==` from `!=`.
+#[derive(Debug, Drop)]
+pub struct Literal {
+    pub same: bool,
+    pub less: Term,
+    pub more: Term,
+}
+
+/// Literals that are true together.
+#[derive(Debug, Drop)]
+pub struct Cube {
+    pub literals: Items<Literal>,
+}
+
+/// A cube over x1 to x3, with the classes of these variables.
+#[derive(Debug, Drop)]
+pub struct Family {
+    pub classes: Items<u32>,
+    pub cube: Cube,
+}
+
+/// A family with the variables that stand for its own.
+#[derive(Debug, Drop)]
+pub struct Instance {
+    pub family: Family,
+    pub args: Items<Var>,
+}
