@@ -9,11 +9,11 @@ use Rattle.easl_model.specs.Form.{Form, fields_of}
 use Rattle.easl_model.specs.Names.{IsSort}
 use Rattle.easl_model.specs.declared.tree.Param.{Param}
 use Rattle.easl_model.proofs.FormsInRange.{all_at, all_from_places, most_or_more}
-use Rattle.easl_heap.specs.Full.{IsGiven}
+use Rattle.easl_heap.specs.Full.{FieldsLead, IsGiven}
 use Rattle.easl_heap.specs.Heap.{Object, IsFull, IsFullObject, IsObjectOf, get, object_at}
 use Rattle.easl_heap.proofs.FormFields.{one_sort, zip_from}
 use Rattle.easl_heap.proofs.Typed.{AreFor}
-use Rattle.easl_heap.proofs.Whole.{AreShaped, FieldsLead, IsWhole, Keeps, stays_whole, was_of, whole_field, whole_object}
+use Rattle.easl_heap.proofs.Whole.{AreShaped, IsWhole, Keeps, stays_whole, was_of, whole_field, whole_object}
 use Rattle.easl_heap.proofs.Writes.{got, is_object, object_of}
 
 full_at : (form : Form) (heap : List Object) (n : ℕ) (o : Object) → IsFull form heap → object_at heap n ≡ Some o → IsFullObject form heap o
@@ -34,7 +34,7 @@ full_field form heap class n p of full is at =
     let e : get heap n p ≡ v.0 = got heap n p o.0 o.1 ∙ get_or_from_slice_get o.0.fields p v.0 0 v.1 in
     subst (IsObjectOf heap of) (sym e) v.2
 
-full_leads : (form : Form) (heap : List Object) → IsFull form heap → (ps : List ℕ) (class n end : ℕ) → IsObjectOf heap class n → FieldsLead form class ps end → IsObjectOf heap end (fold (get heap) n ps)
+pub full_leads : (form : Form) (heap : List Object) → IsFull form heap → (ps : List ℕ) (class n end : ℕ) → IsObjectOf heap class n → FieldsLead form class ps end → IsObjectOf heap end (fold (get heap) n ps)
 full_leads form heap full [] class n end is leads = subst (λ c. IsObjectOf heap c n) leads is
 full_leads form heap full (p ∷ ps) class n end is leads =
     full_leads form heap full ps leads.0 (get heap n p) end (full_field form heap class n p leads.0 full is leads.1) leads.2

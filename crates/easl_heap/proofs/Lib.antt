@@ -3,7 +3,6 @@ pub mod Calls
 pub mod Chains
 pub mod Classes
 pub mod Counting
-pub mod Depth
 pub mod FormFields
 pub mod FullHeaps
 pub mod Places

@@ -5,14 +5,9 @@ use Rattle.std.proofs.lemmas.List.{length-replicate}
 use Rattle.std.proofs.lemmas.Option.{slice_get_within}
 use Rattle.easl_model.specs.Form.{Form, fields_of}
 use Rattle.easl_model.proofs.FormsInRange.{same_or_not, most_or_more}
-use Rattle.easl_heap.specs.Full.{KeepsClasses}
+use Rattle.easl_heap.specs.Full.{FieldsLead, KeepsClasses}
 use Rattle.easl_heap.specs.Heap.{Object, IsObjectOf, object_at, get, write, fresh, with_field}
 use Rattle.easl_heap.proofs.Writes.{at_before, at_cases, get_cases, get_written, is_object, number_within, object_of, object_there, one_class, same_get, write_back, write_cases, write_length}
-
--- from a class, the fields at these positions lead to a class
-abbrev pub FieldsLead : Form → ℕ → List ℕ → ℕ → Type 0
-FieldsLead form class [] end = class ≡ end
-FieldsLead form class (p ∷ ps) end = (next : ℕ) × (slice_get (fields_of form class) p ≡ Some next) × FieldsLead form next ps end
 
 -- an object of the class, and whatever its fields lead to is of the right class
 pub record IsWhole (form : Form) (heap : List Object) (class n : ℕ) : Type 0 where

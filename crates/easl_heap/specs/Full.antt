@@ -1,9 +1,14 @@
 -- What calls are given and what they give on a full heap.
-use Rattle.std.specs.Prelude.{◌≡◌, ℕ, List, ◌∷◌, Option, Some, None, IfSome, slice_get, if◌then◌else◌}
+use Rattle.std.specs.Prelude.{◌≡◌, ℕ, List, [], ◌∷◌, Option, Some, None, IfSome, slice_get, if◌then◌else◌}
 use Rattle.std.specs.List.{AllZip}
-use Rattle.easl_model.specs.Form.{Form}
+use Rattle.easl_model.specs.Form.{Form, fields_of}
 use Rattle.easl_model.specs.declared.form.Method.{Method}
 use Rattle.easl_heap.specs.Heap.{Object, IsObjectOf}
+
+-- from a class, the fields at these positions lead to a class
+abbrev pub FieldsLead : Form → ℕ → List ℕ → ℕ → Type 0
+FieldsLead form class [] end = class ≡ end
+FieldsLead form class (p ∷ ps) end = (next : ℕ) × (slice_get (fields_of form class) p ≡ Some next) × FieldsLead form next ps end
 
 -- each object of a class stays one
 abbrev pub KeepsClasses : List Object → List Object → Type 0
