@@ -1,3 +1,4 @@
+pub mod Branches
 pub mod Called
 pub mod Calls
 pub mod Chains

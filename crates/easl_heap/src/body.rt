@@ -83,7 +83,7 @@ fn returned(
 /// Executes the statements in order, and answers how many are executed now. Where `steps` comes to the most, which
 /// no specification within the limits reaches, the rest is left out.
 #[cycle(body)]
-#[tactic(auto, using(crate::proofs::Underway::begins, crate::proofs::Underway::goes_on, crate::proofs::Underway::stops, crate::proofs::Underway::ends))]
+#[tactic(auto, using(crate::proofs::Underway::begins, crate::proofs::Underway::in_range_at, crate::proofs::Underway::goes_on, crate::proofs::Underway::stops, crate::proofs::Underway::ends))]
 fn run(
     objects: &mut Vec<Object>,
     spec: &CheckedSpec,

@@ -1,13 +1,28 @@
 -- Acts are as their plain trees.
-use Rattle.std.proofs.Common.{◌≡◌, List, [], ◌∷◌, map, refl, ap, sym, ◌∙◌, subst}
+use Rattle.std.proofs.Common.{◌≡◌, ℕ, List, [], ◌∷◌, map, refl, ap, sym, ◌∙◌, subst}
+use Rattle.easl_model.specs.Conditions.{condition_of}
 use Rattle.easl_model.specs.Statements.{Statement, Statements, statement_of, statements, statements_of, rooted, ◌▸◌}
 use Rattle.easl_model.specs.Statements as checked
+use Rattle.easl_model.specs.declared.form.Act as act
 use Rattle.easl_model.specs.declared.form.Act.{Act}
+use Rattle.easl_model.specs.declared.form.Act.TheVariants as variants
 use Rattle.easl_model.specs.declared.form.Act.TheOpen.{Act-F}
 use Rattle.easl_model.specs.declared.form.Act.TheOpen as layer
 use Rattle.easl_model.specs.declared.form.Act.TheFolds.{fold-roll-Act, ind-Act, map-Act}
 use Rattle.easl_model.specs.declared.form.Act.TheViews.{roll-Act}
+use Rattle.easl_model.specs.declared.form.Reach.{Reach}
+use Rattle.easl_model.specs.declared.form.Source.{Source}
+use Rattle.easl_model.specs.declared.form.Test.{Test}
 use Rattle.easl_model.proofs.Tests.{test_comes_back, test_of}
+
+-- acts as plain trees
+pub write_statement : (target : Reach) (field : ℕ) (source : Source) → statement_of (act.Write target field source) ≡ checked.Write target field source
+write_statement target field source =
+    ap statement_of (sym (variants.rolls-Write target field source)) ∙ fold-roll-Act Statement rooted (layer.Write target field source)
+
+pub if_statement : (test : Test) (first second : List Act) → statement_of (act.If test first second) ≡ checked.If (condition_of test) (statements_of first) (statements_of second)
+if_statement test first second =
+    ap statement_of (sym (variants.rolls-If test first second)) ∙ fold-roll-Act Statement rooted (layer.If test first second)
 
 -- the act of a plain tree
 abbrev mutual

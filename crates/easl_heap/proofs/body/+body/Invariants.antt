@@ -1,5 +1,4 @@
 use Rattle.std.proofs.Common.{◌+◌, ◌-◌, ◌*◌}
-use Rattle.easl_model.specs.Statements.{statements_of}
 use Rattle.easl_heap.specs.Executing.{Grows}
 use Rattle.easl_heap.specs.Body.{moment}
 use Rattle.easl_heap.proofs.Underway.{InLimits, IsUnderWay}
