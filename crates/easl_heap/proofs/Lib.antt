@@ -7,6 +7,7 @@ pub mod Counting
 pub mod FormFields
 pub mod FullHeaps
 pub mod Places
+pub mod Reading
 pub mod Runs
 pub mod Steps
 pub mod Typed
