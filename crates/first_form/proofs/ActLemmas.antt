@@ -12,7 +12,8 @@ use Rattle.easl_model.specs.FormOf.{AreConditionsOf, IsActOf, IsSourceOf, IsCond
 use Rattle.easl_model.specs.FormOf as form_of
 use Rattle.easl_model.specs.Scopes as scopes
 use Rattle.easl_model.specs.Scopes.{Begins, Scope, Reaches}
-use Rattle.easl_model.specs.declared.form.Act.TheVariants.{Write}
+use Rattle.easl_model.specs.Statements.{statement_of}
+use Rattle.easl_model.specs.declared.form.Act.{Write}
 use Rattle.easl_model.specs.declared.form.Reach.{Reach}
 use Rattle.easl_model.specs.declared.form.Source.{Source}
 use Rattle.easl_model.specs.declared.form.Source.TheVariants as source
@@ -32,6 +33,7 @@ use Rattle.easl_model.specs.declared.tree.Step.TheVariants.{Assign}
 use Rattle.easl_model.specs.declared.tree.Value.{Value}
 use Rattle.easl_model.specs.declared.tree.Value.TheVariants as value
 use Rattle.easl_model.specs.declared.tree.Word.{Word}
+use Rattle.easl_model.proofs.Acts.{write_statement}
 use Rattle.first_form.specs.Parts.{ArgumentsFitIn, IsAssignment, scope_of}
 use Rattle.first_form.specs.Refusals.{ClauseIsRefused, SidesAreRefused, SomeClauseIsRefused, StepIsRefused}
 use Rattle.first_form.specs.Refusals as refusals
@@ -134,7 +136,8 @@ is_assignment spec scope step path value r rest field s class wanted is reaches 
       value = value;
       class = class;
       is = is;
-      act_is = subst (λ x. IsActOf spec scope x (Write target field s) class) (sym is) (reached, source);
+      act_is = subst (λ x. IsActOf spec scope x (statement_of (Write target field s)) class) (sym is)
+          (subst (λ y. IsActOf spec scope (Assign path value) y class) (sym (write_statement target field s)) (reached, source));
       fits = fits;
     }
 

@@ -10,8 +10,9 @@ use Rattle.easl_model.specs.FormOf.{IsTestOf, AreActsOf, IsActOf, IsArgumentOf, 
 use Rattle.easl_model.specs.Names.{IsSort, constructor_in, members_of}
 use Rattle.easl_model.specs.Scopes.{Scope, scope_at, locals_in, variables, Begins, IsNoVariable, IsOpaque, IsVariable, Reaches}
 use Rattle.easl_model.specs.Scopes as scopes
+use Rattle.easl_model.specs.Statements.{Statement, statement_of, statements_of}
+use Rattle.easl_model.specs.Statements as act
 use Rattle.easl_model.specs.declared.form.Act.{Act}
-use Rattle.easl_model.specs.declared.form.Act.TheVariants as act
 use Rattle.easl_model.specs.declared.form.Method.{Method}
 use Rattle.easl_model.specs.declared.form.Reach.{Reach}
 use Rattle.easl_model.specs.declared.form.Source.{Source}
@@ -89,17 +90,18 @@ source_behind spec class params before (value.New new) (source.Reach r) of none 
 source_behind spec class params before (value.New new) (source.Make made args) of none is =
     (is.0, is.1, arguments_behind spec class params before new.args args none is.2)
 
-assignment_behind : (spec : Spec) (class : ℕ) (params : List Param) (before : List Step) (path : Path) (v : Value) (a : Act) (of : ℕ) → locals_in before ≡ [] → IsActOf spec (scope_of class params) (Assign path v) a of → IsActOf spec (behind class params before) (Assign path v) a of
+assignment_behind : (spec : Spec) (class : ℕ) (params : List Param) (before : List Step) (path : Path) (v : Value) (a : Statement) (of : ℕ) → locals_in before ≡ [] → IsActOf spec (scope_of class params) (Assign path v) a of → IsActOf spec (behind class params before) (Assign path v) a of
 assignment_behind spec class params before path v (act.Local s) of none is = absurd is
+assignment_behind spec class params before path v (act.If c first second) of none is = absurd is
 assignment_behind spec class params before path v (act.Change slot s) of none is =
     (reaches_behind spec class params before path _ of none is.0, source_behind spec class params before v s of none is.1, is.2)
 assignment_behind spec class params before path v (act.Write target field s) of none is =
     (reaches_behind spec class params before path _ of none is.0, source_behind spec class params before v s of none is.1)
 
-act_behind : (spec : Spec) (class : ℕ) (params : List Param) (before : List Step) (x : Step) (a : Act) → locals_in before ≡ [] → IsAssignment spec (scope_of class params) x a → (of : ℕ) × IsActOf spec (behind class params before) x a of
+act_behind : (spec : Spec) (class : ℕ) (params : List Param) (before : List Step) (x : Step) (a : Act) → locals_in before ≡ [] → IsAssignment spec (scope_of class params) x a → (of : ℕ) × IsActOf spec (behind class params before) x (statement_of a) of
 act_behind spec class params before x a none is =
-    let acts = subst (λ y. IsActOf spec (scope_of class params) y a is.class) is.is is.act_is in
-    (is.class, subst (λ y. IsActOf spec (behind class params before) y a is.class) (sym is.is) (assignment_behind spec class params before is.path is.value a is.class none acts))
+    let acts = subst (λ y. IsActOf spec (scope_of class params) y (statement_of a) is.class) is.is is.act_is in
+    (is.class, subst (λ y. IsActOf spec (behind class params before) y (statement_of a) is.class) (sym is.is) (assignment_behind spec class params before is.path is.value (statement_of a) is.class none acts))
 
 -- assignments declare nothing, nor do some of them
 pub no_locals_in : (spec : Spec) (scope : Scope) (xs : List Step) (acts : List Act) (n : ℕ) → AllZip (IsAssignment spec scope) xs acts → locals_in (take n xs) ≡ []
@@ -110,14 +112,14 @@ no_locals_in spec scope (x ∷ xs) (a ∷ acts) zero zip = refl
 no_locals_in spec scope (x ∷ xs) (a ∷ acts) (suc n) zip =
     ap (λ y. locals_in (y ∷ take n xs)) zip.0.is ∙ no_locals_in spec scope xs acts n zip.1
 
-acts_from : (spec : Spec) (b : Body) (n : ℕ) (xs : List Step) (acts : List Act) → ((k : ℕ) → locals_in (take k b.code.body) ≡ []) → AllZip (IsAssignment spec (scope_of b.class b.code.params)) xs acts → AreActsOf spec b n xs acts
+acts_from : (spec : Spec) (b : Body) (n : ℕ) (xs : List Step) (acts : List Act) → ((k : ℕ) → locals_in (take k b.code.body) ≡ []) → AllZip (IsAssignment spec (scope_of b.class b.code.params)) xs acts → AreActsOf spec b n xs (statements_of acts)
 acts_from spec b n [] [] none zip = tt
 acts_from spec b n [] (a ∷ acts) none zip = absurd zip
 acts_from spec b n (x ∷ xs) [] none zip = absurd zip
 acts_from spec b n (x ∷ xs) (a ∷ acts) none zip =
     (act_behind spec b.class b.code.params (take n b.code.body) x a (none n) zip.0, acts_from spec b (suc n) xs acts none zip.1)
 
-pub acts_are : (spec : Spec) (b : Body) (acts : List Act) → AllZip (IsAssignment spec (scope_of b.class b.code.params)) b.code.body acts → AreActsOf spec b 0 b.code.body acts
+pub acts_are : (spec : Spec) (b : Body) (acts : List Act) → AllZip (IsAssignment spec (scope_of b.class b.code.params)) b.code.body acts → AreActsOf spec b 0 b.code.body (statements_of acts)
 acts_are spec b acts zip =
     acts_from spec b 0 b.code.body acts (λ k. no_locals_in spec (scope_of b.class b.code.params) b.code.body acts k zip) zip
 

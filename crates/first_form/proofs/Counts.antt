@@ -9,16 +9,15 @@ use Rattle.easl_model.proofs.FormsInRange.{acts_count, all_at}
 use Rattle.easl_model.specs.Bodies.{Body, bodies_from, bodies_in, bodies_of, constructor_body, constructor_or_implicit, implicit_constructor, method_body}
 use Rattle.easl_model.specs.Form.{Form, constructor_of}
 use Rattle.easl_model.specs.FormOf.{AreActsOf, AreClassesOf, IsActOf, IsClassOf, IsFormOf, IsMethodOf, IsResultOf, IsReturnOf, IsSourceOf}
-use Rattle.easl_model.specs.Limits.{body_of, count_of, statement_count, total_count, constructor_count, value_count, count_in_place}
+use Rattle.easl_model.specs.Limits.{body_of, count_of, statement_count, total_count, constructor_count, value_count, count_in_place, written_by, written_in}
 use Rattle.easl_model.specs.Names.{IsField, constructor_in, fields_in, members_of, methods_in}
 use Rattle.easl_model.specs.Rules.{IsTooLong}
 use Rattle.easl_model.specs.Rules as rules
 use Rattle.easl_model.specs.Scopes.{Begins, Reaches, Scope, locals_in, scope_at}
 use Rattle.easl_model.specs.Scopes as scopes
-use Rattle.easl_model.specs.Statements.{statement_of, statements_of}
+use Rattle.easl_model.specs.Statements.{Statement, Statements, statements_of, ◌▸◌}
+use Rattle.easl_model.specs.Statements as act
 use Rattle.easl_model.specs.TreeLimits.{ClassIsWithin, written_count}
-use Rattle.easl_model.specs.declared.form.Act.{Act}
-use Rattle.easl_model.specs.declared.form.Act.TheVariants as act
 use Rattle.easl_model.specs.declared.form.ClassForm.{ClassForm}
 use Rattle.easl_model.specs.declared.form.Method.{Method}
 use Rattle.easl_model.specs.declared.form.Reach.{Reach}
@@ -108,9 +107,15 @@ made spec form class c is there =
     record { method = m.0; body = rw (f.1, m.1); is = m.2 }
 
 -- a class without fields has a constructor that does nothing
-no_statements : (acts : List Act) → length acts ≡ 0 → acts ≡ []
-no_statements [] none = refl
-no_statements (a ∷ acts) none = absurd (omega arith)
+some_written : (a : Statement) → 0 < written_by a
+some_written (act.Local v) = omega arith
+some_written (act.Change slot v) = omega arith
+some_written (act.Write target field v) = omega arith
+some_written (act.If c first second) = omega arith
+
+no_statements : (acts : Statements) → written_in acts ≡ 0 → acts ≡ act.none
+no_statements act.none none = refl
+no_statements (a ▸ acts) none = absurd (omega (arith, some_written a))
 
 idle_count : (spec : Spec) (form : Form) (depth class : ℕ) (c : Class) → IsFirst spec → IsFormOf spec form → slice_get spec.classes class ≡ Some c → fields_in c.members ≡ [] → constructor_count form depth class ≡ 0
 idle_count spec form zero class c first is there none = refl
@@ -119,8 +124,8 @@ idle_count spec form (suc depth) class c first is there none =
     let written = without_fields spec c (all_at (IsFirstClass spec) spec.classes class c first.classes there) none in
     let implicit : constructor_body class c ≡ record { class = class; constructor = true; code = implicit_constructor c } =
     ap (λ o. record { class = class; constructor = true; code = constructor_or_implicit c o }) written in
-    let long : length m.method.body ≡ 0 = acts_count spec (constructor_body class c) 0 (constructor_body class c).code.body m.method.body m.is.body ∙ ap (λ (b : Body). length b.code.body) implicit in
-    rw (m.body, no_statements m.method.body long)
+    let long : written_in (statements_of m.method.body) ≡ 0 = acts_count spec (constructor_body class c) 0 (constructor_body class c).code.body (statements_of m.method.body) m.is.body ∙ ap (λ (b : Body). length b.code.body) implicit in
+    rw (m.body, no_statements (statements_of m.method.body) long)
 
 -- a statement of a constructor counts alone
 value_alone : (spec : Spec) (form : Form) (depth : ℕ) (code : Code) (b : Body) (n : ℕ) (v : Value) (s : Source) (of : ℕ) → IsFirst spec → IsFormOf spec form → IsFirstValue spec code v → IsSourceOf spec (scope_at b n) v s of → count_of (constructor_count form depth) s ≡ 0
@@ -133,32 +138,33 @@ value_alone spec form depth code b n _ (source.Make class args) of first is (fir
     let there = subst (λ k. slice_get spec.classes k ≡ Some c.0) (same ∙ sym source.0) c.1 in
     idle_count spec form depth class c.0 first is there fields
 
-act_alone : (spec : Spec) (form : Form) (depth : ℕ) (code : Code) (b : Body) (n : ℕ) (x : Step) (a : Act) (of : ℕ) → IsFirst spec → IsFormOf spec form → SetsField spec code x → IsActOf spec (scope_at b n) x a of → statement_count (constructor_count form depth) (statement_of a) ≤ 1
+act_alone : (spec : Spec) (form : Form) (depth : ℕ) (code : Code) (b : Body) (n : ℕ) (x : Step) (a : Statement) (of : ℕ) → IsFirst spec → IsFormOf spec form → SetsField spec code x → IsActOf spec (scope_at b n) x a of → statement_count (constructor_count form depth) a ≤ 1
 act_alone spec form depth code b n (Declare class local v) a of first is sets acts = absurd sets
 act_alone spec form depth code b n (Assign target v) (act.Local s) of first is sets acts = absurd acts
+act_alone spec form depth code b n (Assign target v) (act.If c left right) of first is sets acts = absurd acts
 act_alone spec form depth code b n (Assign target v) (act.Change slot s) of first is sets acts =
     omega (arith, value_alone spec form depth code b n v s of first is sets.1 acts.1)
 act_alone spec form depth code b n (Assign target v) (act.Write r field s) of first is sets acts =
     omega (arith, value_alone spec form depth code b n v s of first is sets.1 acts.1)
 
-acts_alone : (spec : Spec) (form : Form) (depth : ℕ) (code : Code) (b : Body) (n : ℕ) (xs : List Step) (acts : List Act) → IsFirst spec → IsFormOf spec form → All (SetsField spec code) xs → AreActsOf spec b n xs acts → total_count (constructor_count form depth) (statements_of acts) ≤ length xs
-acts_alone spec form depth code b n [] [] first is sets are = omega arith
-acts_alone spec form depth code b n [] (a ∷ acts) first is sets are = absurd are
-acts_alone spec form depth code b n (x ∷ xs) [] first is sets are = absurd are
-acts_alone spec form depth code b n (x ∷ xs) (a ∷ acts) first is sets are =
+acts_alone : (spec : Spec) (form : Form) (depth : ℕ) (code : Code) (b : Body) (n : ℕ) (xs : List Step) (acts : Statements) → IsFirst spec → IsFormOf spec form → All (SetsField spec code) xs → AreActsOf spec b n xs acts → total_count (constructor_count form depth) acts ≤ length xs
+acts_alone spec form depth code b n [] act.none first is sets are = omega arith
+acts_alone spec form depth code b n [] (a ▸ acts) first is sets are = absurd are
+acts_alone spec form depth code b n (x ∷ xs) act.none first is sets are = absurd are
+acts_alone spec form depth code b n (x ∷ xs) (a ▸ acts) first is sets are =
     let one = act_alone spec form depth code b n x a are.0.0 first is (All-head (SetsField spec code) x xs sets) are.0.1 in
     let rest = acts_alone spec form depth code b (suc n) xs acts first is (All-tail (SetsField spec code) x xs sets) are.1 in
     omega arith
 
 -- each statement of a constructor sets a field of its class
-act_at : (spec : Spec) (b : Body) (n : ℕ) (xs : List Step) (acts : List Act) (k : ℕ) (x : Step) → AreActsOf spec b n xs acts → slice_get xs k ≡ Some x → (a : Act) × (of : ℕ) × IsActOf spec (scope_at b (n + k)) x a of
+act_at : (spec : Spec) (b : Body) (n : ℕ) (xs : List Step) (acts : Statements) (k : ℕ) (x : Step) → AreActsOf spec b n xs acts → slice_get xs k ≡ Some x → (a : Statement) × (of : ℕ) × IsActOf spec (scope_at b (n + k)) x a of
 act_at spec b n [] acts k x are there = absurd (cc)
-act_at spec b n (y ∷ xs) [] k x are there = absurd are
-act_at spec b n (y ∷ xs) (a ∷ acts) zero x are there =
+act_at spec b n (y ∷ xs) act.none k x are there = absurd are
+act_at spec b n (y ∷ xs) (a ▸ acts) zero x are there =
     let e : y ≡ x = cc in
     let same : n ≡ n + 0 = omega arith in
     (a, are.0.0, subst (λ m. IsActOf spec (scope_at b m) x a are.0.0) same (subst (λ z. IsActOf spec (scope_at b n) z a are.0.0) e are.0.1))
-act_at spec b n (y ∷ xs) (a ∷ acts) (suc k) x are there =
+act_at spec b n (y ∷ xs) (a ▸ acts) (suc k) x are there =
     let found = act_at spec b (suc n) xs acts k x are.1 there in
     let same : suc n + k ≡ n + suc k = omega arith in
     (found.0, found.1, subst (λ m. IsActOf spec (scope_at b m) x found.0 found.1) same found.2)
@@ -174,12 +180,13 @@ begins_field spec b n w _ _ _ _ is other none (scopes.field x position of free f
     let e : x ≡ w = cc in
     (position, of, subst (λ (y : Word). IsField spec b.class y.name position of) e field)
 
-reached_by : (spec : Spec) (b : Body) (n : ℕ) (path : Path) (v : Value) (a : Act) (of : ℕ) → IsActOf spec (scope_at b n) (Assign path v) a of → (r : Reach) × Reaches spec (scope_at b n) path r of
+reached_by : (spec : Spec) (b : Body) (n : ℕ) (path : Path) (v : Value) (a : Statement) (of : ℕ) → IsActOf spec (scope_at b n) (Assign path v) a of → (r : Reach) × Reaches spec (scope_at b n) path r of
 reached_by spec b n path v (act.Local s) of is = absurd is
+reached_by spec b n path v (act.If c first second) of is = absurd is
 reached_by spec b n path v (act.Change slot s) of is = (record { slot = slot; fields = [] }, is.0)
 reached_by spec b n path v (act.Write r field s) of is = (record { slot = r.slot; fields = r.fields ++ field ∷ [] }, is.0)
 
-step_sets : (spec : Spec) (b : Body) (n : ℕ) (x : Step) (a : Act) (of : ℕ) → locals_in (take n b.code.body) ≡ [] → SetsField spec b.code x → IsActOf spec (scope_at b n) x a of → (f : Field) × (j : ℕ) × (slice_get (fields_in (members_of spec b.class)) j ≡ Some f) × Sets f.name.name x
+step_sets : (spec : Spec) (b : Body) (n : ℕ) (x : Step) (a : Statement) (of : ℕ) → locals_in (take n b.code.body) ≡ [] → SetsField spec b.code x → IsActOf spec (scope_at b n) x a of → (f : Field) × (j : ℕ) × (slice_get (fields_in (members_of spec b.class)) j ≡ Some f) × Sets f.name.name x
 step_sets spec b n (Declare class local v) a of none sets is = absurd sets
 step_sets spec b n (Assign target v) a of none sets is =
     let r = reached_by spec b n target v a of is in
@@ -187,7 +194,7 @@ step_sets spec b n (Assign target v) a of none sets is =
     let field = begins_field spec b n w target.head r.0.slot r.1.first (Some r.1.start) sets.0.1.head sets.0.2 none r.1.begins in
     (field.2.field, field.0, field.2.at, (w, sets.0.1, sym field.2.named))
 
-few_statements : (spec : Spec) (class : ℕ) (c : Class) (code : Code) (acts : List Act) → IsFirst spec → slice_get spec.classes class ≡ Some c → constructor_in c.members ≡ Some code → AreActsOf spec (record { class = class; constructor = true; code = code }) 0 code.body acts → length code.body ≤ 16
+few_statements : (spec : Spec) (class : ℕ) (c : Class) (code : Code) (acts : Statements) → IsFirst spec → slice_get spec.classes class ≡ Some c → constructor_in c.members ≡ Some code → AreActsOf spec (record { class = class; constructor = true; code = code }) 0 code.body acts → length code.body ≤ 16
 few_statements spec class c code acts first there is are =
     let b : Body = record { class = class; constructor = true; code = code } in
     let within = all_at ClassIsWithin spec.classes class c first.limits.each there in
@@ -213,14 +220,14 @@ few_count spec form (suc depth) class c first is there = of_constructor (constru
     of_constructor None none =
         let implicit : constructor_body class c ≡ record { class = class; constructor = true; code = implicit_constructor c } =
         ap (λ o. record { class = class; constructor = true; code = constructor_or_implicit c o }) none in
-        let long : length m.method.body ≡ 0 = acts_count spec (constructor_body class c) 0 (constructor_body class c).code.body m.method.body m.is.body ∙ ap (λ (b : Body). length b.code.body) implicit in
-        rw (m.body, no_statements m.method.body long) (omega arith)
+        let long : written_in (statements_of m.method.body) ≡ 0 = acts_count spec (constructor_body class c) 0 (constructor_body class c).code.body (statements_of m.method.body) m.is.body ∙ ap (λ (b : Body). length b.code.body) implicit in
+        rw (m.body, no_statements (statements_of m.method.body) long) (omega arith)
     of_constructor (Some code) written =
         let b : Body = record { class = class; constructor = true; code = code } in
         let same : constructor_body class c ≡ b = ap (λ o. record { class = class; constructor = true; code = constructor_or_implicit c o }) written in
-        let are = subst (λ (x : Body). AreActsOf spec x 0 x.code.body m.method.body) same m.is.body in
-        let alone = acts_alone spec form depth code b 0 code.body m.method.body first is (constructor_first spec class c code first there written).steps are in
-        let few = few_statements spec class c code m.method.body first there written are in
+        let are = subst (λ (x : Body). AreActsOf spec x 0 x.code.body (statements_of m.method.body)) same m.is.body in
+        let alone = acts_alone spec form depth code b 0 code.body (statements_of m.method.body) first is (constructor_first spec class c code first there written).steps are in
+        let few = few_statements spec class c code (statements_of m.method.body) first there written are in
         rw m.body (omega (arith, alone, few))
 
 -- a statement of a method counts with the constructor that it calls
@@ -231,19 +238,21 @@ value_few spec form depth scope (value.New new) (source.Make class args) of firs
     let c = class_named spec new.class.name of source.1 in
     few_count spec form depth class c.0 first is (subst (λ k. slice_get spec.classes k ≡ Some c.0) (sym source.0) c.1)
 
-act_few : (spec : Spec) (form : Form) (depth : ℕ) (scope : Scope) (x : Step) (a : Act) (of : ℕ) → IsFirst spec → IsFormOf spec form → IsActOf spec scope x a of → statement_count (constructor_count form depth) (statement_of a) ≤ 17
+act_few : (spec : Spec) (form : Form) (depth : ℕ) (scope : Scope) (x : Step) (a : Statement) (of : ℕ) → IsFirst spec → IsFormOf spec form → IsActOf spec scope x a of → statement_count (constructor_count form depth) a ≤ 17
 act_few spec form depth scope (Declare class local v) (act.Local s) of first is acts = omega (arith, value_few spec form depth scope v s of first is acts.1)
 act_few spec form depth scope (Declare class local v) (act.Change slot s) of first is acts = absurd acts
 act_few spec form depth scope (Declare class local v) (act.Write r field s) of first is acts = absurd acts
+act_few spec form depth scope (Declare class local v) (act.If c left right) of first is acts = absurd acts
 act_few spec form depth scope (Assign path v) (act.Local s) of first is acts = absurd acts
+act_few spec form depth scope (Assign path v) (act.If c left right) of first is acts = absurd acts
 act_few spec form depth scope (Assign path v) (act.Change slot s) of first is acts = omega (arith, value_few spec form depth scope v s of first is acts.1)
 act_few spec form depth scope (Assign path v) (act.Write r field s) of first is acts = omega (arith, value_few spec form depth scope v s of first is acts.1)
 
-acts_few : (spec : Spec) (form : Form) (depth : ℕ) (b : Body) (n : ℕ) (xs : List Step) (acts : List Act) → IsFirst spec → IsFormOf spec form → AreActsOf spec b n xs acts → total_count (constructor_count form depth) (statements_of acts) ≤ 17 * length xs
-acts_few spec form depth b n [] [] first is are = omega arith
-acts_few spec form depth b n [] (a ∷ acts) first is are = absurd are
-acts_few spec form depth b n (x ∷ xs) [] first is are = absurd are
-acts_few spec form depth b n (x ∷ xs) (a ∷ acts) first is are =
+acts_few : (spec : Spec) (form : Form) (depth : ℕ) (b : Body) (n : ℕ) (xs : List Step) (acts : Statements) → IsFirst spec → IsFormOf spec form → AreActsOf spec b n xs acts → total_count (constructor_count form depth) acts ≤ 17 * length xs
+acts_few spec form depth b n [] act.none first is are = omega arith
+acts_few spec form depth b n [] (a ▸ acts) first is are = absurd are
+acts_few spec form depth b n (x ∷ xs) act.none first is are = absurd are
+acts_few spec form depth b n (x ∷ xs) (a ▸ acts) first is are =
     let one = act_few spec form depth (scope_at b n) x a are.0.0 first is are.0.1 in
     let rest = acts_few spec form depth b (suc n) xs acts first is are.1 in
     omega arith
@@ -299,7 +308,7 @@ found_from spec n (c ∷ cs) b at has =
 method_few : (spec : Spec) (form : Form) (depth : ℕ) (b : Body) (m : Method) → IsFirst spec → IsFormOf spec form → IsMethodOf spec b m → written_count b.code ≤ 16 → b.constructor ≡ false → total_count (constructor_count form depth) (statements_of m.body) + value_count (constructor_count form depth) m.value ≤ 1024
 method_few spec form depth b m first is of few kind =
     let result = subst (λ k. IsResultOf spec b k m.result m.value) kind of.result in
-    let body = acts_few spec form depth b 0 b.code.body m.body first is of.body in
+    let body = acts_few spec form depth b 0 b.code.body (statements_of m.body) first is of.body in
     let last = return_few spec form depth b b.code.value m.value m.result first is result.1 in
     omega arith
 

@@ -9,6 +9,7 @@ use Rattle.easl_model.specs.Names.{IsClass, fields_in, methods_in}
 use Rattle.easl_model.specs.Rules.{IsDuplicate}
 use Rattle.easl_model.specs.Scopes.{IsOpaque, Leads, Reaches, Scope, scope_at}
 use Rattle.easl_model.specs.TreeLimits.{IsWithinLimits}
+use Rattle.easl_model.specs.Statements.{statement_of}
 use Rattle.easl_model.specs.declared.form.Act.{Act}
 use Rattle.easl_model.specs.declared.form.ClassForm.{ClassForm}
 use Rattle.easl_model.specs.declared.form.Method.{Method}
@@ -85,7 +86,7 @@ pub record IsAssignment (spec : Spec) (scope : Scope) (step : Step) (a : Act) : 
   pub value : Value
   pub class : ℕ
   pub is : step ≡ Assign path value
-  pub act_is : IsActOf spec scope step a class
+  pub act_is : IsActOf spec scope step (statement_of a) class
   pub fits : ArgumentsFitIn spec scope value
 
 -- a `return` gives an object of the result's class, and stands where the result is of a class
