@@ -1,10 +1,15 @@
 //! Predicates on references: terms, literals, cubes and families, and trees of questions on terms.
 #![tactic(auto)]
 
+mod cube;
 mod laws;
 mod term;
 mod tree;
+mod truth;
+mod twins;
 
+pub use cube::cmp_cube;
 pub use laws::{cubes_are_ordered, renaming_keeps_truth};
 pub use term::{Cube, Family, Fields, Instance, Literal, Term, Var};
 pub use tree::{SplitFault, Tree};
+pub use truth::cube_holds;
