@@ -1,5 +1,5 @@
 -- The members of lists, by head and tail.
-use Rattle.std.proofs.Common.{inl, inr, ◌⊎◌, ◌≡◌, ◌≢◌, ℕ, zero, suc, ◌<◌, List, [], ◌∷◌, length, map, get_or, slice_index_or, Contains, arith, refl, ap, sym, ◌∙◌}
+use Rattle.std.proofs.Common.{inl, inr, ◌⊎◌, ◌≡◌, ◌≢◌, ℕ, zero, suc, ◌<◌, List, [], ◌∷◌, length, map, get_or, slice_index_or, Contains, subst, arith, refl, ap, sym, ◌∙◌}
 use Rattle.std.specs.Prelude.{AllPairs}
 
 pub no_member : {X : Type 0} (x : X) → Contains [] x → ⊥
@@ -18,6 +18,9 @@ at_cons y xs x (suc k) within at = inr (k, omega arith, at)
 -- the head, or a member of the tail
 pub which_member : {X : Type 0} (y : X) (xs : List X) (x : X) → Contains (y ∷ xs) x → (y ≡ x) ⊎ Contains xs x
 which_member y xs x is = at_cons y xs x is.0 is.1 is.2
+
+pub found_member : {X : Type 0} (xs : List X) (k : ℕ) (x y : X) → k < length xs → y ≡ get_or xs k y → x ≡ y → Contains xs x
+found_member {X} xs k x y within at same = let P : X → Type 0 = Contains xs in subst P (sym same) (k, within, sym at)
 
 in_map_at : {X Y : Type 0} (f : X → Y) (xs : List X) (x : X) (k : ℕ) → k < length xs → slice_index_or xs k x ≡ x → Contains (map f xs) (f x)
 in_map_at f [] x k within at = absurd (omega arith)

@@ -3,6 +3,7 @@
 
 mod cube;
 mod laws;
+mod rename;
 mod term;
 mod tree;
 mod truth;
@@ -10,6 +11,7 @@ mod twins;
 
 pub use cube::cmp_cube;
 pub use laws::{cubes_are_ordered, renaming_keeps_truth};
+pub use rename::substitute;
 pub use term::{Cube, Family, Fields, Instance, Literal, Term, Var};
 pub use tree::{SplitFault, Tree};
 pub use truth::cube_holds;
