@@ -1,13 +1,12 @@
 -- Literals in order: what the order says of members, and how one is added.
 use Rattle.std.proofs.Common.{inl, inr, ◌⊎◌, ◌↔◌, ◌≡◌, ◌≢◌, ℕ, zero, suc, ◌+◌, ◌<◌, ◌≤◌, true, false, List, [], ◌∷◌, ◌++◌, length, take, drop, get_or, Contains, subst, arith, refl, ap, ap₂, sym, ◌∙◌}
 use Rattle.std.proofs.lemmas.Cmp.{tied_itself}
-use Rattle.std.proofs.lemmas.List.Elements.{Contains-append_right}
 use Rattle.std.specs.List.{insert}
 use Rattle.std.specs.Ordering.{is_eq, is_lt, ordering_reverse}
 use Rattle.std.specs.declared.cmp.Ordering.{Ordering}
 use Rattle.std.specs.declared.cmp.Ordering.TheVariants.{Less, Equal, Greater}
 use Rattle.access_paths.proofs.Exact.{literals_exact}
-use Rattle.access_paths.proofs.Members.{head_member, no_member, tail_member, which_member}
+use Rattle.access_paths.proofs.Members.{head_member, no_member, put_from, put_there, tail_member, which_member}
 use Rattle.access_paths.proofs.Orders.{literals_total}
 use Rattle.access_paths.specs.Adding.{IsAdded, IsPlace}
 use Rattle.access_paths.specs.Terms.{Ascend, compare_literals}
@@ -86,25 +85,6 @@ put_ascends l (m ∷ ls) zero up place = (place.after (omega arith) m, up)
 put_ascends l (m ∷ ls) (suc n) up place =
     let rest = tail_place l m ls n place in
     cons_ascends l m ls n up rest.within (place.before 0 m (omega arith) (omega arith)) (put_ascends l ls n (tail_ascends m ls up) rest)
-
-put_there : (l : Literal) (ls : List Literal) (n : ℕ) (m : Literal) → n ≤ length ls → (l ≡ m) ⊎ Contains ls m → Contains (take n ls ++ l ∷ drop n ls) m
-put_there l ls n m within (inl same) = Contains-append_right (take n ls) (l ∷ drop n ls) m (0, omega arith, same)
-put_there l [] n m within (inr is) = absurd (no_member m is)
-put_there l (k ∷ ls) zero m within (inr is) = tail_member l (k ∷ ls) m is
-put_there l (k ∷ ls) (suc n) m within (inr is) =
-    elim (which_member k ls m is) [
-      inl same ↦ (0, omega arith, same)
-    | inr after ↦ tail_member k (take n ls ++ l ∷ drop n ls) m (put_there l ls n m (omega arith) (inr after))
-    ]
-
-put_from : (l : Literal) (ls : List Literal) (n : ℕ) (m : Literal) → n ≤ length ls → Contains (take n ls ++ l ∷ drop n ls) m → (l ≡ m) ⊎ Contains ls m
-put_from l ls zero m within is = which_member l ls m is
-put_from l [] (suc n) m within is = absurd (omega arith)
-put_from l (k ∷ ls) (suc n) m within is =
-    elim (which_member k (take n ls ++ l ∷ drop n ls) m is) [
-      inl same ↦ inr (0, omega arith, same)
-    | inr after ↦ elim (put_from l ls n m (omega arith) after) [ inl same ↦ inl same | inr there ↦ inr (tail_member k ls m there) ]
-    ]
 
 -- a literal put at its place is added
 pub put_added : (l : Literal) (ls : List Literal) (n : ℕ) → Ascend ls → IsPlace l ls n → IsAdded l ls (insert ls n l)

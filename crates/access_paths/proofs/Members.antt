@@ -1,5 +1,7 @@
 -- The members of lists, by head and tail.
-use Rattle.std.proofs.Common.{inl, inr, ◌⊎◌, ◌≡◌, ◌≢◌, ℕ, zero, suc, ◌<◌, List, [], ◌∷◌, length, map, get_or, slice_index_or, Contains, subst, arith, refl, ap, sym, ◌∙◌}
+use Rattle.std.proofs.Common.{inl, inr, ◌⊎◌, ◌≡◌, ◌≢◌, ℕ, zero, suc, ◌<◌, ◌≤◌, List, [], ◌∷◌, ◌++◌, length, map, take, drop, get_or, slice_index_or, Contains, subst, arith, refl, ap, sym, ◌∙◌}
+use Rattle.std.proofs.lemmas.List.Elements.{Contains-append_cases, Contains-append_left, Contains-append_right}
+use Rattle.std.specs.List.{flat_map}
 use Rattle.std.specs.Prelude.{AllPairs}
 
 pub no_member : {X : Type 0} (x : X) → Contains [] x → ⊥
@@ -62,3 +64,51 @@ cons_distinct x xs new apart = cons_apart x xs new apart
 
 pub none_distinct : {X : Type 0} → Distinct {X = X} []
 none_distinct i j d less within = absurd (omega arith)
+
+-- a list with one more item at a place has that item and its own
+pub put_there : {X : Type 0} (x : X) (xs : List X) (n : ℕ) (y : X) → n ≤ length xs → (x ≡ y) ⊎ Contains xs y → Contains (take n xs ++ x ∷ drop n xs) y
+put_there x xs n y within (inl same) = Contains-append_right (take n xs) (x ∷ drop n xs) y (0, omega arith, same)
+put_there x [] n y within (inr is) = absurd (no_member y is)
+put_there x (z ∷ xs) zero y within (inr is) = tail_member x (z ∷ xs) y is
+put_there x (z ∷ xs) (suc n) y within (inr is) =
+    elim (which_member z xs y is) [
+      inl same ↦ (0, omega arith, same)
+    | inr after ↦ tail_member z (take n xs ++ x ∷ drop n xs) y (put_there x xs n y (omega arith) (inr after))
+    ]
+
+pub put_from : {X : Type 0} (x : X) (xs : List X) (n : ℕ) (y : X) → n ≤ length xs → Contains (take n xs ++ x ∷ drop n xs) y → (x ≡ y) ⊎ Contains xs y
+put_from x xs zero y within is = which_member x xs y is
+put_from x [] (suc n) y within is = absurd (omega arith)
+put_from x (z ∷ xs) (suc n) y within is =
+    elim (which_member z (take n xs ++ x ∷ drop n xs) y is) [
+      inl same ↦ inr (0, omega arith, same)
+    | inr after ↦ elim (put_from x xs n y (omega arith) after) [ inl same ↦ inl same | inr there ↦ inr (tail_member z xs y there) ]
+    ]
+
+-- and is of different items, where the item is new
+pub put_distinct : {X : Type 0} (x : X) (xs : List X) (n : ℕ) → n ≤ length xs → Distinct xs → (Contains xs x → ⊥) → Distinct (take n xs ++ x ∷ drop n xs)
+put_distinct x xs zero within apart new = cons_distinct x xs new apart
+put_distinct x [] (suc n) within apart new = absurd (omega arith)
+put_distinct x (z ∷ xs) (suc n) within apart new =
+    cons_distinct z (take n xs ++ x ∷ drop n xs)
+    (λ there. elim (put_from x xs n z (omega arith) there) [
+      inl same ↦ new (0, omega arith, sym same)
+    | inr after ↦ head_apart z xs apart after
+    ])
+    (put_distinct x xs n (omega arith) (tail_distinct z xs apart) (λ there. new (tail_member z xs x there)))
+
+pub in_flat_map : {X Y : Type 0} (f : X → List Y) (xs : List X) (x : X) (y : Y) → Contains xs x → Contains (f x) y → Contains (flat_map f xs) y
+in_flat_map f [] x y is there = absurd (no_member x is)
+in_flat_map {X} f (z ∷ xs) x y is there =
+    elim (which_member z xs x is) [
+      inl same ↦ let P : X → Type 0 = λ w. Contains (f w) y in Contains-append_left (f z) (flat_map f xs) y (subst P (sym same) there)
+    | inr after ↦ Contains-append_right (f z) (flat_map f xs) y (in_flat_map f xs x y after there)
+    ]
+
+pub of_flat_map : {X Y : Type 0} (f : X → List Y) (xs : List X) (y : Y) → Contains (flat_map f xs) y → (x : X) × Contains xs x × Contains (f x) y
+of_flat_map f [] y is = absurd (no_member y is)
+of_flat_map f (x ∷ xs) y is =
+    elim (Contains-append_cases (f x) (flat_map f xs) y is) [
+      inl first ↦ (x, head_member x xs, first)
+    | inr rest ↦ let from = of_flat_map f xs y rest in (from.0, tail_member x xs from.0 from.1, from.2)
+    ]

@@ -3,6 +3,7 @@
 
 mod cube;
 mod laws;
+mod permutations;
 mod rename;
 mod term;
 mod tree;
@@ -10,7 +11,9 @@ mod truth;
 mod twins;
 
 pub use cube::cmp_cube;
-pub use laws::{cubes_are_ordered, renaming_keeps_truth};
+pub use laws::{
+    cubes_are_ordered, family_is_one, family_keeps_truth, family_returns_cube, renaming_keeps_truth,
+};
 pub use rename::substitute;
 pub use term::{Cube, Family, Fields, Instance, Literal, Term, Var};
 pub use tree::{SplitFault, Tree};
