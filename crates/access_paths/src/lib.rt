@@ -1,10 +1,20 @@
 //! Predicates on references: terms, literals, cubes and families, and trees of questions on terms.
 #![tactic(auto)]
 
+mod cube;
 mod laws;
+mod permutations;
+mod rename;
 mod term;
 mod tree;
+mod truth;
+mod twins;
 
-pub use laws::{cubes_are_ordered, renaming_keeps_truth};
+pub use cube::cmp_cube;
+pub use laws::{
+    cubes_are_ordered, family_is_one, family_keeps_truth, family_returns_cube, renaming_keeps_truth,
+};
+pub use rename::substitute;
 pub use term::{Cube, Family, Fields, Instance, Literal, Term, Var};
 pub use tree::{SplitFault, Tree};
+pub use truth::cube_holds;

@@ -1,12 +1,13 @@
 //! Variables, terms, literals, cubes and families.
+use cv_base::List;
 use smallvec::SmallVec;
-use sqlite_items::Items;
 use std::alloc::{AllocError, Global};
 use std::cmp::Ordering;
+use std::hash::{Hash, Hasher};
 use std::marker::Model;
 
 /// A variable of a question: 0 to 2 are x1 to x3, 3 is `this`, 4 to 7 are the parameters.
-#[derive(Clone, Copy, Debug, PartialEq, Eq)]
+#[derive(Clone, Copy, Debug, PartialEq, Eq, PartialOrd, Ord, Hash)]
 pub struct Var(pub u8);
 
 /// Field positions, which contracts see as their list.
@@ -19,6 +20,40 @@ impl Model for Fields {
     ghost Value = { List ℕ };
 
     ghost view = { λ f. f.0.items };
+}
+
+impl PartialEq for Fields {
+    ghost use Rattle.std.specs.Prelude.{nat_eq};
+    ghost use Rattle.std.specs.Cmp.{partial_equiv_from_equiv};
+    ghost use Rattle.std.specs.Cmp.Lexicographic.{pointwise};
+    ghost use Rattle.std.proofs.lemmas.Cmp.{nat_list_eq_equiv};
+
+    ghost eq = { pointwise nat_eq };
+
+    ghost laws = { partial_equiv_from_equiv nat_list_eq_equiv };
+
+    fn eq(&self, other: &Fields) -> bool {
+        self.0.as_slice() == other.0.as_slice()
+    }
+}
+
+impl Eq for Fields {
+    ghost use Rattle.std.proofs.lemmas.Cmp.{nat_list_eq_equiv};
+
+    ghost laws = { nat_list_eq_equiv };
+}
+
+impl Hash for Fields {
+    ghost use Rattle.std.specs.Hash as fed;
+    ghost use Rattle.access_paths.specs.Fed.{numbers_fed_alike};
+
+    ghost hash_input = { fed.slice fed.u32 };
+
+    ghost respects_eq = { numbers_fed_alike };
+
+    fn hash<H: Hasher>(&self, state: &mut H) {
+        self.0.as_slice().hash(state);
+    }
 }
 
 impl Fields {
@@ -53,7 +88,7 @@ impl Fields {
 }
 
 /// What the fields lead to from the variable.
-#[derive(Debug, Drop)]
+#[derive(Debug, Drop, PartialEq, Eq, Hash)]
 pub struct Term {
     pub var: Var,
     pub fields: Fields,
@@ -107,29 +142,44 @@ impl Term {
 }
 
 /// Whether two terms lead to one object, the lesser first. `same` tells `==` from `!=`.
-#[derive(Debug, Drop)]
+#[derive(Debug, Drop, PartialEq, Eq, Hash)]
 pub struct Literal {
     pub same: bool,
     pub less: Term,
     pub more: Term,
 }
 
+impl Literal {
+    ghost use Rattle.std.specs.Prelude.{◌≡◌};
+    ghost use Rattle.access_paths.specs.Terms.{compare_literals};
+
+    /// The order of literals: by first term, then second term, `==` first.
+    pub fn compare(&self, other: &Literal) -> Ordering
+        ensures { result ≡ compare_literals self.now other.now }
+    {
+        self.less
+            .compare(&other.less)
+            .then(self.more.compare(&other.more))
+            .then(other.same.cmp(&self.same))
+    }
+}
+
 /// Literals that are true together.
-#[derive(Debug, Drop)]
+#[derive(Debug, Drop, PartialEq, Eq, Hash)]
 pub struct Cube {
-    pub literals: Items<Literal>,
+    pub literals: List<Literal>,
 }
 
 /// A cube over x1 to x3, with the classes of these variables.
-#[derive(Debug, Drop)]
+#[derive(Debug, Drop, PartialEq, Eq, Hash)]
 pub struct Family {
-    pub classes: Items<u32>,
+    pub classes: List<u32>,
     pub cube: Cube,
 }
 
 /// A family with the variables that stand for its own.
-#[derive(Debug, Drop)]
+#[derive(Debug, Drop, PartialEq, Eq, Hash)]
 pub struct Instance {
     pub family: Family,
-    pub args: Items<Var>,
+    pub args: List<Var>,
 }

@@ -2,6 +2,7 @@
 #![tactic(auto)]
 
 mod bytes;
+mod list;
 mod mem_shelf;
 mod mem_sink;
 mod push;
@@ -12,6 +13,7 @@ mod status;
 mod tests;
 
 pub use bytes::Bytes;
+pub use list::List;
 pub use mem_shelf::{Held, MemShelf};
 pub use mem_sink::MemSink;
 pub use push::{Memory, push_bytes, push_number};

@@ -1,7 +1,7 @@
 //! Items.
 ghost use Rattle.std.specs.Prelude.{◌≡◌, true, IfOk};
 
-use cv_base::Memory;
+use cv_base::{List, Memory};
 use std::alloc::Global;
 
 /// A value that can be made twice, and whose `==` says whether contracts see one value.
@@ -44,4 +44,25 @@ impl<A: Twin + Drop, B: Twin + Drop> Twin for (A, B) {
         let second = self.1.twin(alloc)?;
         Ok((first, second))
     }
+}
+
+impl<T: Twin + Drop> Twin for List<T> {
+    ghost use Rattle.cv_fix.specs.Same.{same_list};
+
+    ghost exact = { same_list T.Twin.exact };
+
+    fn twin(&self, alloc: Global) -> Result<List<T>, Memory> {
+        Ok(List::from_vec(twins(alloc, self.as_slice())?))
+    }
+}
+
+/// The same items again.
+fn twins<T: Twin + Drop>(alloc: Global, items: &[T]) -> Result<Vec<T>, Memory>
+    ensures { IfOk result (λ made. made.items ≡ items.now) }
+{
+    let mut made = Vec::new(alloc);
+    'each: for item in items {
+        made.push(item.twin(alloc)?).map_err(|_| Memory)?;
+    }
+    Ok(made)
 }
