@@ -1,0 +1,3 @@
+//! Which terms of a question are equal: term lists, configurations, the configuration of a heap, and what
+//! disjuncts are chosen over configurations.
+#![tactic(auto)]
