@@ -1,0 +1,4 @@
+pub mod Cases
+pub mod Numbers
+pub mod Places
+pub mod Terms
