@@ -122,7 +122,7 @@ by_method form checked b m (this ∷ args) heap stands is method full given =
     let start : Moment = moment heap (this ∷ args) 0 in
     let after : Moment = run make (statements_of m.body) start in
     let makes = outermost_all form checked b in
-    let ran = run_keeps form checked b stands this make makes b.code.body m.body 0 start refl (omega arith) is.body (method_typed form checked b m this args heap is full given.0 given.1) in
+    let ran = run_keeps form checked b stands this make makes b.code.body (statements_of m.body) 0 start refl (omega arith) is.body (method_typed form checked b m this args heap is full given.0 given.1) in
     let result : IsResultOf checked.tree b false m.result m.value = subst (λ k. IsResultOf checked.tree b k m.result m.value) method is.result in
     let gave = returned_keeps form checked b stands this make makes b.code.value m.value m.result after refl result.1 ran.1 in
     (keeps_both form heap after.heap (returned make m.value after).heap ran.0 gave.0, gave.1)

@@ -1,12 +1,13 @@
+pub mod Branches
 pub mod Called
 pub mod Calls
 pub mod Chains
 pub mod Classes
 pub mod Counting
-pub mod Depth
 pub mod FormFields
 pub mod FullHeaps
 pub mod Places
+pub mod Reading
 pub mod Runs
 pub mod Steps
 pub mod Typed

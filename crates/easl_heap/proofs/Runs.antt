@@ -9,8 +9,7 @@ use Rattle.easl_model.specs.Form.{Form, constructor_of}
 use Rattle.easl_model.specs.FormOf.{AreActsOf}
 use Rattle.easl_model.specs.Limits.{body_of}
 use Rattle.easl_model.specs.Rules as rules_of
-use Rattle.easl_model.specs.Statements.{Statements, statement_of, statements_of}
-use Rattle.easl_model.specs.declared.form.Act.{Act}
+use Rattle.easl_model.specs.Statements.{Statements, none, statements_of, ◌▸◌}
 use Rattle.easl_model.specs.declared.tree.Class.{Class}
 use Rattle.easl_model.specs.declared.tree.Step.{Step}
 use Rattle.easl_model.proofs.FormsInRange.{class_within}
@@ -25,18 +24,18 @@ use Rattle.easl_heap.proofs.Whole.{AreShaped, IsWhole, Keeps, adding_stays, cons
 use Rattle.easl_heap.proofs.Writes.{at_last, is_object}
 
 -- the statements from one on
-pub run_keeps : (form : Form) (checked : IsChecked form) (b : Body) → Stands form checked b → (this : ℕ) (make : Making) → MakesAll form checked make b → (xs : List Step) (acts : List Act) (n : ℕ) (m : Moment) → drop n b.code.body ≡ xs → n + length xs ≡ length b.code.body → AreActsOf checked.tree b n xs acts → IsTyped form checked b n this m.heap m.slots → Keeps form m.heap (run make (statements_of acts) m).heap × IsTyped form checked b (length b.code.body) this (run make (statements_of acts) m).heap (run make (statements_of acts) m).slots
-run_keeps form checked b stands this make makes [] [] n m rest all are t =
+pub run_keeps : (form : Form) (checked : IsChecked form) (b : Body) → Stands form checked b → (this : ℕ) (make : Making) → MakesAll form checked make b → (xs : List Step) (acts : Statements) (n : ℕ) (m : Moment) → drop n b.code.body ≡ xs → n + length xs ≡ length b.code.body → AreActsOf checked.tree b n xs acts → IsTyped form checked b n this m.heap m.slots → Keeps form m.heap (run make acts m).heap × IsTyped form checked b (length b.code.body) this (run make acts m).heap (run make acts m).slots
+run_keeps form checked b stands this make makes [] none n m rest all are t =
     let e : n ≡ length b.code.body = omega (arith, all) in
     (keeps_same form m.heap, subst (λ k. IsTyped form checked b k this m.heap m.slots) e t)
-run_keeps form checked b stands this make makes [] (a ∷ acts) n m rest all are t = absurd are
-run_keeps form checked b stands this make makes (x ∷ xs) [] n m rest all are t = absurd are
-run_keeps form checked b stands this make makes (x ∷ xs) (a ∷ acts) n m rest all are t =
+run_keeps form checked b stands this make makes [] (a ▸ acts) n m rest all are t = absurd are
+run_keeps form checked b stands this make makes (x ∷ xs) none n m rest all are t = absurd are
+run_keeps form checked b stands this make makes (x ∷ xs) (a ▸ acts) n m rest all are t =
     let k = next b.code.body n x xs rest in
-    let m' : Moment = step make (statement_of a) (counted m) in
+    let m' : Moment = step make a (counted m) in
     let first = step_keeps form checked b stands n this make x a xs are.0.0 (counted m) makes k are.0.1 t in
     let others = run_keeps form checked b stands this make makes xs acts (suc n) m' k.after (omega (arith, all)) are.1 first.1 in
-    (keeps_both form m.heap m'.heap (run make (statements_of acts) m').heap first.0 others.0, others.1)
+    (keeps_both form m.heap m'.heap (run make acts m').heap first.0 others.0, others.1)
 
 begun_typed : (form : Form) (checked : IsChecked form) (class : ℕ) (c : Class) (args : List ℕ) (heap : List Object) → class < length form.classes → AreShaped form heap → AreFor form checked heap (constructor_body class c).code.params args → IsTyped form checked (constructor_body class c) 0 (length heap + 1) (heap ++ fresh form class ∷ []) ((length heap + 1) ∷ args)
 begun_typed form checked class c args heap there shaped are =
@@ -65,7 +64,7 @@ constructed form checked class there c make makes args heap steps xs are_xs shap
     let start : Moment = moment (heap ++ fresh form class ∷ []) (this ∷ args) steps in
     let stands : Stands form checked b = record { among = c.stands; class = there } in
     let in_form : class < length form.classes = omega (arith, there, same_count form checked) in
-    let ran = run_keeps form checked b stands this make makes b.code.body c.method.body 0 start refl (omega arith) c.is.body (begun_typed form checked class c.tree args heap in_form shaped are) in
+    let ran = run_keeps form checked b stands this make makes b.code.body (statements_of c.method.body) 0 start refl (omega arith) c.is.body (begun_typed form checked class c.tree args heap in_form shaped are) in
     let last : Moment = run make (statements_of c.method.body) start in
     let w = whole_when_ready form checked b stands (length b.code.body) this last.heap last.slots ran.1 (end_ready form checked b stands) in
     subst (λ ys. Keeps form heap (run make ys start).heap × IsWhole form (run make ys start).heap class this) (sym are_xs)

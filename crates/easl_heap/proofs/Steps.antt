@@ -13,9 +13,8 @@ use Rattle.easl_model.specs.Names.{IsClass, IsField, IsSort}
 use Rattle.easl_model.specs.Rules as rules_of
 use Rattle.easl_model.specs.Scopes.{Begins, Leads, Reaches, locals_in, scope_at, variables}
 use Rattle.easl_model.specs.Scopes as scopes
-use Rattle.easl_model.specs.Statements.{statement_of}
-use Rattle.easl_model.specs.declared.form.Act.{Act}
-use Rattle.easl_model.specs.declared.form.Act.TheVariants as act
+use Rattle.easl_model.specs.Statements.{Statement}
+use Rattle.easl_model.specs.Statements as act
 use Rattle.easl_model.specs.declared.form.Reach.{Reach}
 use Rattle.easl_model.specs.declared.tree.Param.{Param}
 use Rattle.easl_model.specs.declared.tree.Path.{Path}
@@ -337,13 +336,14 @@ module _ (form : Form) (checked : IsChecked form) (b : Body) (stands : Stands fo
       )
 
   -- a statement
-  pub step_keeps : (make : Making) (x : Step) (a : Act) (rest : List Step) (class : ℕ) (m : Moment) → MakesAll form checked make b → IsNext b.code.body n x rest → IsActOf checked.tree (scope_at b n) x a class → IsTyped form checked b n this m.heap m.slots → Keeps form m.heap (step make (statement_of a) m).heap × IsTyped form checked b (suc n) this (step make (statement_of a) m).heap (step make (statement_of a) m).slots
+  pub step_keeps : (make : Making) (x : Step) (a : Statement) (rest : List Step) (class : ℕ) (m : Moment) → MakesAll form checked make b → IsNext b.code.body n x rest → IsActOf checked.tree (scope_at b n) x a class → IsTyped form checked b n this m.heap m.slots → Keeps form m.heap (step make a m).heap × IsTyped form checked b (suc n) this (step make a m).heap (step make a m).slots
   step_keeps make (Declare of name v) (act.Local s) rest class m makes k is t =
       let x = told.value make s m in
       let done = value_keeps form checked b stands n this m.heap m.slots t make v s class m.steps makes (body_rules.declared n of name v k.at) is.1 in
       (done.0, declared x.heap m.slots of name v rest class x.result k is.0 done.1 (moved m.heap x.heap m.slots done.0 t))
   step_keeps make (Declare of name v) (act.Change slot s) rest class m makes k is t = absurd is
   step_keeps make (Declare of name v) (act.Write target field s) rest class m makes k is t = absurd is
+  step_keeps make (Declare of name v) (act.If c first second) rest class m makes k is t = absurd is
   step_keeps make (Assign path v) (act.Local s) rest class m makes k is t = absurd is
   step_keeps make (Assign path v) (act.Change slot s) rest class m makes k is t =
       let x = told.value make s m in
@@ -353,3 +353,4 @@ module _ (form : Form) (checked : IsChecked form) (b : Body) (stands : Stands fo
       let x = told.value make s m in
       let done = value_keeps form checked b stands n this m.heap m.slots t make v s class m.steps makes (body_rules.assigned n path v k.at) is.1 in
       assigned m.heap x.heap m.slots path v rest target field class x.result k is.0 t done.0 done.1
+  step_keeps make (Assign path v) (act.If c first second) rest class m makes k is t = absurd is

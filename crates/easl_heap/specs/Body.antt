@@ -1,13 +1,14 @@
 -- Bodies of methods.
-use Rattle.std.specs.Prelude.{◌≡◌, ℕ, zero, suc, ◌+◌, List, [], ◌∷◌, ◌++◌, map, length, Option, Some, None, IfSome, slice_get, slice_set, if◌then◌else◌}
+use Rattle.std.specs.Prelude.{◌≡◌, ℕ, zero, suc, ◌+◌, List, [], ◌∷◌, ◌++◌, map, length, Option, Some, None, IfSome, slice_get, slice_set, take, if◌then◌else◌}
 use Rattle.std.specs.Option.{option_map_or}
 use Rattle.easl_model.specs.Form.{Form, constructor_of}
-use Rattle.easl_model.specs.Statements.{Statement, Statements, statements_of, Local, Change, Write, none, ◌▸◌}
+use Rattle.easl_model.specs.Statements.{Statement, Statements, statements_of, Local, Change, Write, If, none, ◌▸◌}
 use Rattle.easl_model.specs.Limits.{body_of}
 use Rattle.easl_model.specs.declared.form.Method.{Method}
 use Rattle.easl_model.specs.declared.form.Reach as path
 use Rattle.easl_model.specs.declared.form.Source.{Source}
 use Rattle.easl_model.specs.declared.form.Source.TheVariants.{Reach, Make}
+use Rattle.easl_heap.specs.Clause.{holds}
 use Rattle.easl_heap.specs.Heap.{Object, reached, write, fresh}
 
 -- how many arguments a method takes: its receiver, where it is no constructor, and one for each parameter
@@ -50,18 +51,25 @@ value make (Make class args) m = make class (map (argument m.heap m.slots) args)
 abbrev pub counted : Moment → Moment
 counted m = record m { steps = m.steps + 1 }
 
--- a local takes the next slot; the object whose field is written is found before the value
-abbrev pub step : Making → Statement → Moment → Moment
-step make (Local v) m = let x = value make v m in moment x.heap (m.slots ++ x.result ∷ []) x.steps
-step make (Change slot v) m = let x = value make v m in moment x.heap (slice_set m.slots slot x.result) x.steps
-step make (Write target field v) m =
-    let owner = reached m.heap m.slots target
-    in let x = value make v m
-    in moment (write x.heap owner field x.result) m.slots x.steps
+-- the locals of a list end with it
+abbrev pub ended : Moment → Moment → Moment
+ended before after = record after { slots = take (length before.slots) after.slots }
 
-abbrev pub run : Making → Statements → Moment → Moment
-run make none m = m
-run make (x ▸ xs) m = run make xs (step make x (counted m))
+abbrev mutual
+  -- a local takes the next slot; the object whose field is written is found before the value; a condition is read on the
+  -- present heap
+  pub step : Making → Statement → Moment → Moment
+  step make (Local v) m = let x = value make v m in moment x.heap (m.slots ++ x.result ∷ []) x.steps
+  step make (Change slot v) m = let x = value make v m in moment x.heap (slice_set m.slots slot x.result) x.steps
+  step make (Write target field v) m =
+      let owner = reached m.heap m.slots target
+      in let x = value make v m
+      in moment (write x.heap owner field x.result) m.slots x.steps
+  step make (If c first second) m = ended m (if holds m.heap m.slots c then run make first m else run make second m)
+
+  pub run : Making → Statements → Moment → Moment
+  run make none m = m
+  run make (x ▸ xs) m = run make xs (step make x (counted m))
 
 -- a fresh object takes the next number, and then its class's constructor is executed in place on it.
 -- So deep may constructors stand in one another

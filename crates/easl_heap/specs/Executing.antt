@@ -1,7 +1,7 @@
 -- What the code has come to, in the words of the bodies' meaning.
-use Rattle.std.specs.Prelude.{Vec, vec_len, vec_capacity, ◌^◌, ◌<◌, ◌≡◌, ℕ, ◌+◌, ◌≤◌, List, All, length}
-use Rattle.easl_model.specs.Limits.{ActHasFewArguments}
-use Rattle.easl_model.specs.declared.form.Act.{Act}
+use Rattle.std.specs.Prelude.{Vec, vec_len, vec_capacity, ◌^◌, ◌<◌, ◌≡◌, ℕ, ◌+◌, ◌≤◌, List, length}
+use Rattle.easl_model.specs.Limits.{ActsHaveFewArguments, written_in}
+use Rattle.easl_model.specs.Statements.{Statements}
 use Rattle.easl_heap.specs.Body.{Moment, Outcome}
 
 -- it is as told, where that is within the limit on statements
@@ -11,10 +11,10 @@ Comes now told = told.steps ≤ 1024 → now ≡ told
 abbrev pub Gives : Outcome → Outcome → Type 0
 Gives done told = told.steps ≤ 1024 → done ≡ told
 
--- there is room for a slot a statement, and for the arguments of constructions
-pub record Fits (slots : List ℕ) (acts : List Act) : Type 0 where
-  pub room : length slots + length acts ≤ 69
-  pub arguments : All ActHasFewArguments acts
+-- there is room for a slot for each statement that is written, and for the arguments of constructions
+pub record Fits (slots : List ℕ) (xs : Statements) : Type 0 where
+  pub room : length slots + written_in xs ≤ 69
+  pub arguments : ActsHaveFewArguments xs
 
 -- there is room for so many more objects, and a number for each
 pub record HasRoom {X Z : Type 0} (objects : Vec X Z) (more : ℕ) : Type 0 where

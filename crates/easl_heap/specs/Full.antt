@@ -5,6 +5,11 @@ use Rattle.easl_model.specs.Form.{Form, fields_of}
 use Rattle.easl_model.specs.declared.form.Method.{Method}
 use Rattle.easl_heap.specs.Heap.{Object, IsObjectOf}
 
+-- from a class, the fields at these positions lead to a class
+abbrev pub FieldsLead : Form → ℕ → List ℕ → ℕ → Type 0
+FieldsLead form class [] end = class ≡ end
+FieldsLead form class (p ∷ ps) end = (next : ℕ) × (slice_get (fields_of form class) p ≡ Some next) × FieldsLead form next ps end
+
 -- each object of a class stays one
 abbrev pub KeepsClasses : List Object → List Object → Type 0
 KeepsClasses old new = (class n : ℕ) → IsObjectOf old class n → IsObjectOf new class n

@@ -1,8 +1,8 @@
 //! Bodies, executed statement by statement. A constructor that is called is executed in place on its fresh object.
-ghost use Rattle.std.specs.Prelude.{◌≡◌, ◌+◌, ◌-◌, ◌^◌, ◌<◌, ◌≤◌, [], ◌∷◌, ◌++◌, All, length, map, slice_set, vec_len, vec_capacity, IfSome};
+ghost use Rattle.std.specs.Prelude.{◌≡◌, ◌+◌, ◌-◌, ◌^◌, ◌<◌, ◌≤◌, [], ◌∷◌, ◌++◌, length, map, slice_set, vec_len, vec_capacity, IfSome};
 ghost use Rattle.easl_model.specs.Checked.{IsChecked};
-ghost use Rattle.easl_model.specs.Form.{ActInRange, SourceInRange};
-ghost use Rattle.easl_model.specs.Limits.{ActHasFewArguments, HasFewArguments};
+ghost use Rattle.easl_model.specs.Form.{ActInRange, ActsInRange, SourceInRange};
+ghost use Rattle.easl_model.specs.Limits.{ActHasFewArguments, HasFewArguments, written_by};
 ghost use Rattle.easl_model.specs.Statements.{statement_of, statements_of};
 ghost use Rattle.easl_heap.specs.Heap.{fresh};
 ghost use Rattle.easl_heap.specs.Heap as heap;
@@ -11,6 +11,7 @@ ghost use Rattle.easl_heap.specs.Body as told;
 ghost use Rattle.easl_heap.specs.Executing.{Comes, Gives, Fits, Grows, HasRoom};
 ghost use Rattle.arrayvec.specs.ArrayVec.{array_vec_len};
 
+use crate::clause::holds;
 use crate::object::Object;
 use crate::paths::{Slots, reached};
 use arrayvec::ArrayVec;
@@ -82,7 +83,7 @@ fn returned(
 /// Executes the statements in order, and answers how many are executed now. Where `steps` comes to the most, which
 /// no specification within the limits reaches, the rest is left out.
 #[cycle(body)]
-#[tactic(auto, using(crate::proofs::Underway::begins, crate::proofs::Underway::goes_on, crate::proofs::Underway::stops, crate::proofs::Underway::ends))]
+#[tactic(auto, using(crate::proofs::Underway::begins, crate::proofs::Underway::in_range_at, crate::proofs::Underway::goes_on, crate::proofs::Underway::stops, crate::proofs::Underway::ends))]
 fn run(
     objects: &mut Vec<Object>,
     spec: &CheckedSpec,
@@ -91,11 +92,11 @@ fn run(
     slots: &mut Slots,
     steps: u32,
 ) -> u32
-    requires acts { All (ActInRange (length spec.now.classes)) acts.now }
+    requires acts { ActsInRange (length spec.now.classes) (statements_of acts.now) }
     requires steps { steps ≤ 1024 }
     requires room { HasRoom objects.old (1024 - steps) }
     ensures grows { Grows 0 objects.old steps objects.new result }
-    ensures comes { Fits slots.old.items acts.now
+    ensures comes { Fits slots.old.items (statements_of acts.now)
         → Comes (moment objects.new.items slots.new.items result)
         (told.run (made spec.now depth) (statements_of acts.now) (moment objects.old.items slots.old.items steps)) }
 {
@@ -119,12 +120,12 @@ fn step(
     slots: &mut Slots,
     steps: u32,
 ) -> u32
-    requires act { ActInRange (length spec.now.classes) act.now }
+    requires act { ActInRange (length spec.now.classes) (statement_of act.now) }
     requires steps { steps ≤ 1024 }
     requires room { HasRoom objects.old (1025 - steps) }
     ensures grows { Grows 1 objects.old steps objects.new result }
-    ensures comes { ActHasFewArguments act.now
-        → array_vec_len slots.old < 69
+    ensures comes { ActHasFewArguments (statement_of act.now)
+        → array_vec_len slots.old + written_by (statement_of act.now) ≤ 69
         → Comes (moment objects.new.items slots.new.items result)
         (told.step (made spec.now depth) (statement_of act.now) (moment objects.old.items slots.old.items steps)) }
 {
@@ -143,6 +144,17 @@ fn step(
             let owner = reached(objects.as_slice(), slots.as_slice(), target);
             let (object, steps) = value(objects, spec, depth, source, slots.as_slice(), steps);
             write(objects, owner, *field, object);
+            steps
+        }
+        Act::If(test, first, second) => {
+            let declared = slots.len();
+            let acts = if holds(objects.as_slice(), slots.as_slice(), test) {
+                first.as_slice()
+            } else {
+                second.as_slice()
+            };
+            let steps = run(objects, spec, depth, acts, slots, steps);
+            slots.truncate(declared);
             steps
         }
     }

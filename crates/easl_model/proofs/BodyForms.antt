@@ -12,8 +12,8 @@ use Rattle.easl_model.specs.FormOf.{AreActsOf, AreConditionsOf, AreSides, IsActO
 use Rattle.easl_model.specs.FormOf as checked
 use Rattle.easl_model.specs.Names.{IsClass, IsSort}
 use Rattle.easl_model.specs.Scopes.{IsOpaque, Reaches, Scope, scope_at}
-use Rattle.easl_model.specs.declared.form.Act.{Act}
-use Rattle.easl_model.specs.declared.form.Act.TheVariants as act
+use Rattle.easl_model.specs.Statements.{Statement, Statements, statements_of, ◌▸◌}
+use Rattle.easl_model.specs.Statements as act
 use Rattle.easl_model.specs.declared.form.Method.{Method}
 use Rattle.easl_model.specs.declared.form.Reach.{Reach}
 use Rattle.easl_model.specs.declared.form.Source.{Source}
@@ -53,21 +53,21 @@ abbrev pub IsPlaced : Spec → Scope → Path → Type 0
 IsPlaced spec scope path = Arrives spec scope path ⊎ IsOpaque spec scope path
 
 -- statements
-act_from : (spec : Spec) (b : Body) (n : ℕ) (xs : List Step) (acts : List Act) (k : ℕ) (x : Step) → AreActsOf spec b n xs acts → slice_get xs k ≡ Some x → (a : Act) × (class : ℕ) × IsActOf spec (scope_at b (n + k)) x a class
+act_from : (spec : Spec) (b : Body) (n : ℕ) (xs : List Step) (acts : Statements) (k : ℕ) (x : Step) → AreActsOf spec b n xs acts → slice_get xs k ≡ Some x → (a : Statement) × (class : ℕ) × IsActOf spec (scope_at b (n + k)) x a class
 act_from spec b n [] acts k x are there = absurd (cc)
-act_from spec b n (y ∷ xs) [] k x are there = absurd are
-act_from spec b n (y ∷ xs) (a ∷ acts) zero x are there =
+act_from spec b n (y ∷ xs) act.none k x are there = absurd are
+act_from spec b n (y ∷ xs) (a ▸ acts) zero x are there =
     let e : y ≡ x = cc in
     let same : n ≡ n + 0 = omega arith in
     (a, are.0.0, subst (λ z. IsActOf spec (scope_at b (n + 0)) z a are.0.0) e (subst (λ m. IsActOf spec (scope_at b m) y a are.0.0) same are.0.1))
-act_from spec b n (y ∷ xs) (a ∷ acts) (suc k) x are there =
+act_from spec b n (y ∷ xs) (a ▸ acts) (suc k) x are there =
     let found = act_from spec b (suc n) xs acts k x are.1 there in
     let same : suc n + k ≡ n + suc k = omega arith in
     (found.0, found.1, subst (λ m. IsActOf spec (scope_at b m) x found.0 found.1) same found.2)
 
-pub act_at : (spec : Spec) (b : Body) (m : Method) → IsMethodOf spec b m → (n : ℕ) (x : Step) → slice_get b.code.body n ≡ Some x → (a : Act) × (class : ℕ) × IsActOf spec (scope_at b n) x a class
+pub act_at : (spec : Spec) (b : Body) (m : Method) → IsMethodOf spec b m → (n : ℕ) (x : Step) → slice_get b.code.body n ≡ Some x → (a : Statement) × (class : ℕ) × IsActOf spec (scope_at b n) x a class
 act_at spec b m is n x there =
-    let found = act_from spec b 0 b.code.body m.body n x is.body there in
+    let found = act_from spec b 0 b.code.body (statements_of m.body) n x is.body there in
     let same : 0 + n ≡ n = omega arith in
     (found.0, found.1, subst (λ k. IsActOf spec (scope_at b k) x found.0 found.1) same found.2)
 
@@ -77,10 +77,11 @@ pub record Declares (spec : Spec) (scope : Scope) (name : Word) (v : Value) : Ty
   pub named : IsClass spec name.name class
   pub given : Gives spec scope v class
 
-declared_by : (spec : Spec) (scope : Scope) (name local : Word) (v : Value) (a : Act) (class : ℕ) → IsActOf spec scope (Declare name local v) a class → Declares spec scope name v
+declared_by : (spec : Spec) (scope : Scope) (name local : Word) (v : Value) (a : Statement) (class : ℕ) → IsActOf spec scope (Declare name local v) a class → Declares spec scope name v
 declared_by spec scope name local v (act.Local s) class is = record { class = class; named = is.0; given = (s, is.1) }
 declared_by spec scope name local v (act.Change slot s) class is = absurd is
 declared_by spec scope name local v (act.Write target field s) class is = absurd is
+declared_by spec scope name local v (act.If c first second) class is = absurd is
 
 pub declared_at : (spec : Spec) (b : Body) (m : Method) → IsMethodOf spec b m → (n : ℕ) (name local : Word) (v : Value) → slice_get b.code.body n ≡ Some (Declare name local v) → Declares spec (scope_at b n) name v
 declared_at spec b m is n name local v there =
@@ -95,12 +96,13 @@ pub record Assigns (spec : Spec) (scope : Scope) (path : Path) (v : Value) : Typ
   pub given : Gives spec scope v class
   pub other : (reach.slot ≡ 0) → reach.fields ≡ [] → ⊥
 
-assigned_by : (spec : Spec) (scope : Scope) (path : Path) (v : Value) (a : Act) (class : ℕ) → IsActOf spec scope (Assign path v) a class → Assigns spec scope path v
+assigned_by : (spec : Spec) (scope : Scope) (path : Path) (v : Value) (a : Statement) (class : ℕ) → IsActOf spec scope (Assign path v) a class → Assigns spec scope path v
 assigned_by spec scope path v (act.Local s) class is = absurd is
 assigned_by spec scope path v (act.Change slot s) class is =
     record { class = class; reach = record { slot = slot; fields = [] }; reaches = is.0; given = (s, is.1); other = λ none alone. omega (arith, is.2) }
 assigned_by spec scope path v (act.Write target field s) class is =
     record { class = class; reach = _; reaches = is.0; given = (s, is.1); other = λ none alone. not_empty target.fields field [] alone }
+assigned_by spec scope path v (act.If c first second) class is = absurd is
 
 pub assigned_at : (spec : Spec) (b : Body) (m : Method) → IsMethodOf spec b m → (n : ℕ) (path : Path) (v : Value) → slice_get b.code.body n ≡ Some (Assign path v) → Assigns spec (scope_at b n) path v
 assigned_at spec b m is n path v there =

@@ -12,16 +12,16 @@ use Rattle.easl_model.specs.Bodies.{Body, bodies_in, bodies_from, bodies_of, con
 use Rattle.easl_model.specs.BodyRules.{HasValue, Calls}
 use Rattle.easl_model.specs.BodyRules as body_rules
 use Rattle.easl_model.specs.Checked.{IsChecked, IsInRange}
-use Rattle.easl_model.specs.Form.{Form, ActInRange, ClassInRange, MethodInRange, SourceInRange}
+use Rattle.easl_model.specs.Form.{Form, ActInRange, ActsInRange, ClassInRange, MethodInRange, SourceInRange}
 use Rattle.easl_model.specs.FormOf.{AreActsOf, AreClassesOf, IsActOf, IsArgumentOf, IsClassOf, IsFormOf, IsMethodOf, IsResultOf, IsReturnOf, IsSourceOf, IsTestOf}
-use Rattle.easl_model.specs.Limits.{ActHasFewArguments, HasFewArguments, MethodKeepsLimits, count_in_place}
+use Rattle.easl_model.specs.Limits.{ActHasFewArguments, ActsHaveFewArguments, HasFewArguments, MethodKeepsLimits, count_in_place, written_by, written_in}
 use Rattle.easl_model.specs.Names.{IsClass, IsSort, codes_in, constructor_in, fields_in, methods_in}
 use Rattle.easl_model.specs.Rules.{IsWellFormed}
 use Rattle.easl_model.specs.Rules as rules_of
 use Rattle.easl_model.specs.Scopes.{Scope, scope_at}
+use Rattle.easl_model.specs.Statements.{Statement, Statements, statements_of, ◌▸◌}
+use Rattle.easl_model.specs.Statements as act
 use Rattle.easl_model.specs.TreeLimits.{ClassIsWithin, CodeIsWithin, IsWithinLimits}
-use Rattle.easl_model.specs.declared.form.Act.{Act}
-use Rattle.easl_model.specs.declared.form.Act.TheVariants as act
 use Rattle.easl_model.specs.declared.form.ClassForm.{ClassForm}
 use Rattle.easl_model.specs.declared.form.Method.{Method}
 use Rattle.easl_model.specs.declared.form.Source.{Source}
@@ -170,44 +170,59 @@ abbrev value_of : Step → Value
 value_of (Declare class name v) = v
 value_of (Assign path v) = v
 
-act_in_range : (spec : Spec) (scope : Scope) (x : Step) (a : Act) (class : ℕ) → IsActOf spec scope x a class → ActInRange (length spec.classes) a
+act_in_range : (spec : Spec) (scope : Scope) (x : Step) (a : Statement) (class : ℕ) → IsActOf spec scope x a class → ActInRange (length spec.classes) a
 act_in_range spec scope (Declare c n v) (act.Local s) class is = source_in_range spec scope v s class is.1
 act_in_range spec scope (Declare c n v) (act.Change slot s) class is = absurd is
 act_in_range spec scope (Declare c n v) (act.Write target field s) class is = absurd is
+act_in_range spec scope (Declare c n v) (act.If d first second) class is = absurd is
 act_in_range spec scope (Assign p v) (act.Local s) class is = absurd is
+act_in_range spec scope (Assign p v) (act.If d first second) class is = absurd is
 act_in_range spec scope (Assign p v) (act.Change slot s) class is = source_in_range spec scope v s class is.1
 act_in_range spec scope (Assign p v) (act.Write target field s) class is = source_in_range spec scope v s class is.1
 
-act_has_few : (spec : Spec) (scope : Scope) (x : Step) (a : Act) (class : ℕ) → FewIn spec (value_of x) → IsActOf spec scope x a class → ActHasFewArguments a
+act_has_few : (spec : Spec) (scope : Scope) (x : Step) (a : Statement) (class : ℕ) → FewIn spec (value_of x) → IsActOf spec scope x a class → ActHasFewArguments a
 act_has_few spec scope (Declare c n v) (act.Local s) class few is = source_has_few spec scope v s class few is.1
 act_has_few spec scope (Declare c n v) (act.Change slot s) class few is = absurd is
 act_has_few spec scope (Declare c n v) (act.Write target field s) class few is = absurd is
+act_has_few spec scope (Declare c n v) (act.If d first second) class few is = absurd is
 act_has_few spec scope (Assign p v) (act.Local s) class few is = absurd is
+act_has_few spec scope (Assign p v) (act.If d first second) class few is = absurd is
 act_has_few spec scope (Assign p v) (act.Change slot s) class few is = source_has_few spec scope v s class few is.1
 act_has_few spec scope (Assign p v) (act.Write target field s) class few is = source_has_few spec scope v s class few is.1
 
-acts_in_range : (spec : Spec) (b : Body) (n : ℕ) (xs : List Step) (acts : List Act) → AreActsOf spec b n xs acts → All (ActInRange (length spec.classes)) acts
-acts_in_range spec b n [] [] are = All-nil (ActInRange (length spec.classes))
-acts_in_range spec b n [] (a ∷ acts) are = absurd are
-acts_in_range spec b n (x ∷ xs) [] are = absurd are
-acts_in_range spec b n (x ∷ xs) (a ∷ acts) are =
-    All-cons (ActInRange (length spec.classes)) a acts
-    (act_in_range spec (scope_at b n) x a are.0.0 are.0.1) (acts_in_range spec b (suc n) xs acts are.1)
+acts_in_range : (spec : Spec) (b : Body) (n : ℕ) (xs : List Step) (acts : Statements) → AreActsOf spec b n xs acts → ActsInRange (length spec.classes) acts
+acts_in_range spec b n [] act.none are = tt
+acts_in_range spec b n [] (a ▸ acts) are = absurd are
+acts_in_range spec b n (x ∷ xs) act.none are = absurd are
+acts_in_range spec b n (x ∷ xs) (a ▸ acts) are =
+    (act_in_range spec (scope_at b n) x a are.0.0 are.0.1, acts_in_range spec b (suc n) xs acts are.1)
 
-acts_have_few : (spec : Spec) (b : Body) (n : ℕ) (xs : List Step) (acts : List Act) → All (λ x. FewIn spec (value_of x)) xs → AreActsOf spec b n xs acts → All ActHasFewArguments acts
-acts_have_few spec b n [] [] few are = All-nil ActHasFewArguments
-acts_have_few spec b n [] (a ∷ acts) few are = absurd are
-acts_have_few spec b n (x ∷ xs) [] few are = absurd are
-acts_have_few spec b n (x ∷ xs) (a ∷ acts) few are =
-    All-cons ActHasFewArguments a acts
-    (act_has_few spec (scope_at b n) x a are.0.0 (All-head (λ x. FewIn spec (value_of x)) x xs few) are.0.1)
-    (acts_have_few spec b (suc n) xs acts (All-tail (λ x. FewIn spec (value_of x)) x xs few) are.1)
+acts_have_few : (spec : Spec) (b : Body) (n : ℕ) (xs : List Step) (acts : Statements) → All (λ x. FewIn spec (value_of x)) xs → AreActsOf spec b n xs acts → ActsHaveFewArguments acts
+acts_have_few spec b n [] act.none few are = tt
+acts_have_few spec b n [] (a ▸ acts) few are = absurd are
+acts_have_few spec b n (x ∷ xs) act.none few are = absurd are
+acts_have_few spec b n (x ∷ xs) (a ▸ acts) few are = (
+  act_has_few spec (scope_at b n) x a are.0.0 (All-head (λ x. FewIn spec (value_of x)) x xs few) are.0.1,
+  acts_have_few spec b (suc n) xs acts (All-tail (λ x. FewIn spec (value_of x)) x xs few) are.1,
+)
 
-pub acts_count : (spec : Spec) (b : Body) (n : ℕ) (xs : List Step) (acts : List Act) → AreActsOf spec b n xs acts → length acts ≡ length xs
-acts_count spec b n [] [] are = refl
-acts_count spec b n [] (a ∷ acts) are = absurd are
-acts_count spec b n (x ∷ xs) [] are = absurd are
-acts_count spec b n (x ∷ xs) (a ∷ acts) are = ap suc (acts_count spec b (suc n) xs acts are.1)
+-- each statement is written alone
+act_alone : (spec : Spec) (scope : Scope) (x : Step) (a : Statement) (class : ℕ) → IsActOf spec scope x a class → written_by a ≡ 1
+act_alone spec scope (Declare c n v) (act.Local s) class is = refl
+act_alone spec scope (Declare c n v) (act.Change slot s) class is = refl
+act_alone spec scope (Declare c n v) (act.Write target field s) class is = refl
+act_alone spec scope (Declare c n v) (act.If d first second) class is = absurd is
+act_alone spec scope (Assign p v) (act.Local s) class is = refl
+act_alone spec scope (Assign p v) (act.Change slot s) class is = refl
+act_alone spec scope (Assign p v) (act.Write target field s) class is = refl
+act_alone spec scope (Assign p v) (act.If d first second) class is = absurd is
+
+pub acts_count : (spec : Spec) (b : Body) (n : ℕ) (xs : List Step) (acts : Statements) → AreActsOf spec b n xs acts → written_in acts ≡ length xs
+acts_count spec b n [] act.none are = refl
+acts_count spec b n [] (a ▸ acts) are = absurd are
+acts_count spec b n (x ∷ xs) act.none are = absurd are
+acts_count spec b n (x ∷ xs) (a ▸ acts) are =
+    omega (arith, act_alone spec (scope_at b n) x a are.0.0 are.0.1, acts_count spec b (suc n) xs acts are.1)
 
 pub same_or_not : (n m : ℕ) → (n ≡ m) ⊎ (n ≢ m)
 same_or_not zero zero = inl refl
@@ -293,7 +308,7 @@ method_in_range spec b m fits is = record {
   few = omega (arith, fits.small.params, params_long);
   params = all_right OfSort (λ p. IfSome p (λ n. n < length spec.classes)) (λ p o typed. sort_within spec p.sort o typed) b.code.params m.params is.params;
   result = result_in_range spec b b.constructor m.result m.value fits.class is.result;
-  body = acts_in_range spec b 0 b.code.body m.body is.body;
+  body = acts_in_range spec b 0 b.code.body (statements_of m.body) is.body;
   value = value_in_range spec b b.constructor m.result m.value is.result;
 }
   where
@@ -306,8 +321,8 @@ method_in_range spec b m fits is = record {
 method_keeps_limits : (spec : Spec) (form : Form) (k : ℕ) (b : Body) (m : Method) → IsWellFormed spec → IsWithinLimits spec → IsFormOf spec form → slice_get (bodies_of spec) k ≡ Some b → slice_get form.methods k ≡ Some m → BodyFits (length spec.classes) b → IsMethodOf spec b m → MethodKeepsLimits form m
 method_keeps_limits spec form k b m formed within is_form there at fits is = record {
   clauses = omega (arith, fits.small.clauses, AllZip-long (IsTestOf spec (scope_at b 0)) b.code.clauses m.clauses is.clauses);
-  written = omega (arith, fits.small.statements, acts_count spec b 0 b.code.body m.body is.body);
-  body = acts_have_few spec b 0 b.code.body m.body (all_from_places (λ x. FewIn spec (value_of x)) b.code.body (λ n x here. few_in_step spec b k n x formed within there here)) is.body;
+  written = omega (arith, fits.small.statements, acts_count spec b 0 b.code.body (statements_of m.body) is.body);
+  body = acts_have_few spec b 0 b.code.body (statements_of m.body) (all_from_places (λ x. FewIn spec (value_of x)) b.code.body (λ n x here. few_in_step spec b k n x formed within there here)) is.body;
   value = value_has_few spec b b.constructor m.result m.value (λ w here. few_in_return spec b k w formed within there here) is.result;
   in_place = elim (most_or_more (count_in_place form m) 1024) [
     | inl few ↦ few

@@ -1,3 +1,4 @@
+pub mod Acts
 pub mod BodyForms
 pub mod ClassesFit
 pub mod Constructors

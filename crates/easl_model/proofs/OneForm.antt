@@ -13,8 +13,8 @@ use Rattle.easl_model.specs.FormOf as checked
 use Rattle.easl_model.specs.Names.{IsClass, IsSort, fields_in, methods_in}
 use Rattle.easl_model.specs.Rules.{NamesDiffer}
 use Rattle.easl_model.specs.Scopes.{Reaches, Scope, scope_at, variables}
-use Rattle.easl_model.specs.declared.form.Act.{Act}
-use Rattle.easl_model.specs.declared.form.Act.TheVariants as act
+use Rattle.easl_model.specs.Statements.{Statement, Statements, statements_of}
+use Rattle.easl_model.specs.Statements as act
 use Rattle.easl_model.specs.declared.form.ClassForm.{ClassForm}
 use Rattle.easl_model.specs.declared.form.Method.{Method}
 use Rattle.easl_model.specs.declared.form.Reach.{Reach}
@@ -37,6 +37,7 @@ use Rattle.easl_model.specs.declared.tree.Value.TheVariants as value
 use Rattle.easl_model.proofs.BodyForms.{not_empty}
 use Rattle.easl_model.proofs.OneWay.{NoDuplicate, OneEach, class_is_one, opaque_or_reaches, reaches_one_way, sort_is_one}
 use Rattle.easl_model.proofs.Standing.{contains_at, get_contained, later, one_each}
+use Rattle.easl_model.proofs.Acts.{one_list}
 use Rattle.easl_model.proofs.Tests.{one_test}
 
 -- where one item stands beside each, one list stands beside the list
@@ -122,14 +123,19 @@ same_reach : (r s : Reach) → r.slot ≡ s.slot → r.fields ≡ s.fields → r
 same_reach r s slots fields =
     ap (λ n. record { slot = n; fields = r.fields }) slots ∙ ap (λ ks. record { slot = s.slot; fields = ks }) fields
 
-act_is_one : (spec : Spec) (scope : Scope) → NoDuplicate spec → OneEach (variables scope) → (x : Step) (a c : Act) (class of : ℕ) → IsActOf spec scope x a class → IsActOf spec scope x c of → a ≡ c
+act_is_one : (spec : Spec) (scope : Scope) → NoDuplicate spec → OneEach (variables scope) → (x : Step) (a c : Statement) (class of : ℕ) → IsActOf spec scope x a class → IsActOf spec scope x c of → a ≡ c
 act_is_one spec scope distinct one (Declare name local v) (act.Local s) (act.Local t) class of is also =
     ap act.Local (source_is_one spec scope distinct one v s t class of is.1 also.1)
 act_is_one spec scope distinct one (Declare name local v) (act.Local s) (act.Change slot t) class of is also = absurd also
 act_is_one spec scope distinct one (Declare name local v) (act.Local s) (act.Write target field t) class of is also = absurd also
+act_is_one spec scope distinct one (Declare name local v) (act.Local s) (act.If d first second) class of is also = absurd also
+act_is_one spec scope distinct one (Declare name local v) (act.If d first second) c class of is also = absurd is
 act_is_one spec scope distinct one (Declare name local v) (act.Change slot s) c class of is also = absurd is
 act_is_one spec scope distinct one (Declare name local v) (act.Write target field s) c class of is also = absurd is
 act_is_one spec scope distinct one (Assign path v) (act.Local s) c class of is also = absurd is
+act_is_one spec scope distinct one (Assign path v) (act.If d first second) c class of is also = absurd is
+act_is_one spec scope distinct one (Assign path v) (act.Change slot s) (act.If d first second) class of is also = absurd also
+act_is_one spec scope distinct one (Assign path v) (act.Write target field s) (act.If d first second) class of is also = absurd also
 act_is_one spec scope distinct one (Assign path v) (act.Change slot s) (act.Local t) class of is also = absurd also
 act_is_one spec scope distinct one (Assign path v) (act.Change slot s) (act.Change other t) class of is also =
     let reach = reach_is_one spec scope distinct one path _ _ class of is.0 also.0 in
@@ -150,16 +156,16 @@ act_is_one spec scope distinct one (Assign path v) (act.Write target field s) (a
     let sources = source_is_one spec scope distinct one v s t class of is.1 also.1 in
     ap (λ r. act.Write r field s) targets ∙ ap (λ k. act.Write other k s) fields.1 ∙ ap (act.Write other last) sources
 
-acts_are_one : (spec : Spec) (b : Body) → NoDuplicate spec → ((n : ℕ) → OneEach (variables (scope_at b n))) → (n : ℕ) (xs : List Step) (acts others : List Act) → AreActsOf spec b n xs acts → AreActsOf spec b n xs others → acts ≡ others
-acts_are_one spec b distinct one n [] [] [] are also = refl
-acts_are_one spec b distinct one n [] [] (c ∷ others) are also = absurd also
-acts_are_one spec b distinct one n [] (a ∷ acts) others are also = absurd are
-acts_are_one spec b distinct one n (x ∷ xs) [] others are also = absurd are
-acts_are_one spec b distinct one n (x ∷ xs) (a ∷ acts) [] are also = absurd also
-acts_are_one spec b distinct one n (x ∷ xs) (a ∷ acts) (c ∷ others) are also =
+acts_are_one : (spec : Spec) (b : Body) → NoDuplicate spec → ((n : ℕ) → OneEach (variables (scope_at b n))) → (n : ℕ) (xs : List Step) (acts others : Statements) → AreActsOf spec b n xs acts → AreActsOf spec b n xs others → acts ≡ others
+acts_are_one spec b distinct one n [] act.none act.none are also = refl
+acts_are_one spec b distinct one n [] act.none (act.◌▸◌ c others) are also = absurd also
+acts_are_one spec b distinct one n [] (act.◌▸◌ a acts) others are also = absurd are
+acts_are_one spec b distinct one n (x ∷ xs) act.none others are also = absurd are
+acts_are_one spec b distinct one n (x ∷ xs) (act.◌▸◌ a acts) act.none are also = absurd also
+acts_are_one spec b distinct one n (x ∷ xs) (act.◌▸◌ a acts) (act.◌▸◌ c others) are also =
     let same = act_is_one spec (scope_at b n) distinct (one n) x a c are.0.0 also.0.0 are.0.1 also.0.1 in
     let rest = acts_are_one spec b distinct one (suc n) xs acts others are.1 also.1 in
-    ap (λ y. y ∷ acts) same ∙ ap (λ ys. c ∷ ys) rest
+    ap (λ y. act.◌▸◌ y acts) same ∙ ap (act.◌▸◌ c) rest
 
 -- results
 return_is_one : (spec : Spec) (b : Body) → NoDuplicate spec → ((n : ℕ) → OneEach (variables (scope_at b n))) → (o : Option Value) (s t : Option Source) (result other : Option ℕ) → IsReturnOf spec b o s result → IsReturnOf spec b o t other → s ≡ t
@@ -189,7 +195,7 @@ method_is_one spec differ b has m n is also =
     let params : m.params ≡ n.params = zip_is_one (λ (p : Param) o. IsSort spec p.sort o) b.code.params m.params n.params (λ p in_there. sort_is_one spec distinct p.sort) is.params also.params in
     let param_names : m.names ≡ n.names = is.names ∙ sym also.names in
     let clauses : m.clauses ≡ n.clauses = zip_is_one (IsTestOf spec (scope_at b 0)) b.code.clauses m.clauses n.clauses (λ cond in_there. test_is_one spec (scope_at b 0) distinct (one 0) cond) is.clauses also.clauses in
-    let bodies : m.body ≡ n.body = acts_are_one spec b distinct one 0 b.code.body m.body n.body is.body also.body in
+    let bodies : m.body ≡ n.body = one_list m.body n.body (acts_are_one spec b distinct one 0 b.code.body (statements_of m.body) (statements_of n.body) is.body also.body) in
     let results = result_is_one spec b distinct one b.constructor m.result n.result m.value n.value is.result (subst (λ c. IsResultOf spec b c n.result n.value) refl also.result) in
     let result : m.result ≡ n.result = results.0 in
     let returned : m.value ≡ n.value = results.1 in

@@ -10,7 +10,7 @@ use Rattle.easl_model.specs.declared.form.Test.TheViews.{roll-Test}
 
 -- the test of a plain tree
 abbrev mutual
-  test_of : Condition → Test
+  pub test_of : Condition → Test
   test_of (checked.Same left right) = roll-Test (layer.Same left right)
   test_of (checked.Differ left right) = roll-Test (layer.Differ left right)
   test_of (checked.All ts) = roll-Test (layer.All (tests_of ts))
@@ -40,9 +40,9 @@ layer_comes_back (layer.Any es) =
     let items : List Test = map (λ (e : Known). e.0) es in
     ap test_of (fold-roll-Test Condition rooted (layer.Any items)) ∙ ap (λ ts. roll-Test (layer.Any ts)) (come_back es)
 
-comes_back : (t : Test) → ComesBack t
-comes_back = ind-Test ComesBack (λ x y is. subst (λ z. ComesBack (roll-Test z)) is (layer_comes_back y))
+pub test_comes_back : (t : Test) → ComesBack t
+test_comes_back = ind-Test ComesBack (λ x y is. subst (λ z. ComesBack (roll-Test z)) is (layer_comes_back y))
 
 -- two tests with one plain tree are one
 pub one_test : (t u : Test) → condition_of t ≡ condition_of u → t ≡ u
-one_test t u same = sym (comes_back t) ∙ ap test_of same ∙ comes_back u
+one_test t u same = sym (test_comes_back t) ∙ ap test_of same ∙ test_comes_back u

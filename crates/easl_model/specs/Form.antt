@@ -1,10 +1,9 @@
 -- The checked form of a specification.
 use Rattle.std.specs.Prelude.{◌≡◌, ℕ, ◌<◌, ◌≤◌, List, All, length, IfSome, slice_get, unwrap_or, []}
 use Rattle.std.specs.Option.{option_map}
+use Rattle.easl_model.specs.Statements.{Statement, Statements, statements_of, Local, Change, Write, If, none, ◌▸◌}
 use Rattle.easl_model.specs.declared.form.ClassForm.{ClassForm}
 use Rattle.easl_model.specs.declared.form.Method.{Method}
-use Rattle.easl_model.specs.declared.form.Act.{Act}
-use Rattle.easl_model.specs.declared.form.Act.TheVariants.{Local, Change, Write}
 use Rattle.easl_model.specs.declared.form.Source.{Source}
 use Rattle.easl_model.specs.declared.form.Source.TheVariants.{Reach, Make}
 
@@ -30,10 +29,16 @@ abbrev pub SourceInRange : ℕ → Source → Type 0
 SourceInRange classes (Reach r) = Unit {0}
 SourceInRange classes (Make class args) = class < classes
 
-abbrev pub ActInRange : ℕ → Act → Type 0
-ActInRange classes (Local v) = SourceInRange classes v
-ActInRange classes (Change slot v) = SourceInRange classes v
-ActInRange classes (Write target field v) = SourceInRange classes v
+abbrev mutual
+  pub ActInRange : ℕ → Statement → Type 0
+  ActInRange classes (Local v) = SourceInRange classes v
+  ActInRange classes (Change slot v) = SourceInRange classes v
+  ActInRange classes (Write target field v) = SourceInRange classes v
+  ActInRange classes (If c first second) = ActsInRange classes first × ActsInRange classes second
+
+  pub ActsInRange : ℕ → Statements → Type 0
+  ActsInRange classes none = Unit {0}
+  ActsInRange classes (x ▸ xs) = ActInRange classes x × ActsInRange classes xs
 
 pub record ClassInRange (classes methods : ℕ) (c : ClassForm) : Type 0 where
   pub named : length c.field_names ≡ length c.field_classes
@@ -47,5 +52,5 @@ pub record MethodInRange (classes : ℕ) (m : Method) : Type 0 where
   pub few : length m.params ≤ 4
   pub params : All (λ p. IfSome p (λ n. n < classes)) m.params
   pub result : IfSome m.result (λ n. n < classes)
-  pub body : All (ActInRange classes) m.body
+  pub body : ActsInRange classes (statements_of m.body)
   pub value : IfSome m.value (SourceInRange classes)

@@ -9,8 +9,8 @@ use Rattle.easl_model.specs.Conditions as checked
 use Rattle.easl_model.specs.Form.{Form}
 use Rattle.easl_model.specs.Names.{IsClass, IsSort, fields_in}
 use Rattle.easl_model.specs.Scopes.{Scope, scope_at, IsOpaque, Reaches}
-use Rattle.easl_model.specs.declared.form.Act.{Act}
-use Rattle.easl_model.specs.declared.form.Act.TheVariants as act
+use Rattle.easl_model.specs.Statements.{Statement, Statements, statements_of}
+use Rattle.easl_model.specs.Statements as act
 use Rattle.easl_model.specs.declared.form.ClassForm.{ClassForm}
 use Rattle.easl_model.specs.declared.form.Method.{Method}
 use Rattle.easl_model.specs.declared.form.Reach.{Reach}
@@ -64,21 +64,24 @@ IsSourceOf spec scope (value.Path path) (source.Make made args) class = ⊥
 IsSourceOf spec scope (value.New new) (source.Reach r) class = ⊥
 IsSourceOf spec scope (value.New new) (source.Make made args) class = (made ≡ class) × IsClass spec new.class.name class × AllZip (IsArgumentOf spec scope) new.args args
 
--- what is assigned: the slot of a variable, which is not that of `this`, or the last field to which the path leads
-abbrev pub IsActOf : Spec → Scope → Step → Act → ℕ → Type 0
+-- what is assigned: the slot of a variable, which is not that of `this`, or the last field to which the path leads.
+-- No step is a conditional
+abbrev pub IsActOf : Spec → Scope → Step → Statement → ℕ → Type 0
 IsActOf spec scope (Declare name local v) (act.Local s) class = IsClass spec name.name class × IsSourceOf spec scope v s class
 IsActOf spec scope (Declare name local v) (act.Change slot s) class = ⊥
 IsActOf spec scope (Declare name local v) (act.Write target field s) class = ⊥
+IsActOf spec scope (Declare name local v) (act.If c first second) class = ⊥
 IsActOf spec scope (Assign path v) (act.Local s) class = ⊥
 IsActOf spec scope (Assign path v) (act.Change slot s) class = Reaches spec scope path (record { slot = slot; fields = [] }) class × IsSourceOf spec scope v s class × (0 < slot)
 IsActOf spec scope (Assign path v) (act.Write target field s) class = Reaches spec scope path (record { slot = target.slot; fields = target.fields ++ field ∷ [] }) class × IsSourceOf spec scope v s class
+IsActOf spec scope (Assign path v) (act.If c first second) class = ⊥
 
 -- the acts are the body's statements, from this one on
-abbrev pub AreActsOf : Spec → Body → ℕ → List Step → List Act → Type 0
-AreActsOf spec b n [] [] = Unit {0}
-AreActsOf spec b n [] (a ∷ rest) = ⊥
-AreActsOf spec b n (x ∷ xs) [] = ⊥
-AreActsOf spec b n (x ∷ xs) (a ∷ rest) = ((class : ℕ) × IsActOf spec (scope_at b n) x a class) × AreActsOf spec b (suc n) xs rest
+abbrev pub AreActsOf : Spec → Body → ℕ → List Step → Statements → Type 0
+AreActsOf spec b n [] act.none = Unit {0}
+AreActsOf spec b n [] (act.◌▸◌ a rest) = ⊥
+AreActsOf spec b n (x ∷ xs) act.none = ⊥
+AreActsOf spec b n (x ∷ xs) (act.◌▸◌ a rest) = ((class : ℕ) × IsActOf spec (scope_at b n) x a class) × AreActsOf spec b (suc n) xs rest
 
 -- a `return` gives an object of the result's class, and stands where the result is of a class
 abbrev pub IsReturnOf : Spec → Body → Option Value → Option Source → Option ℕ → Type 0
@@ -110,7 +113,7 @@ pub record IsMethodOf (spec : Spec) (b : Body) (m : Method) : Type 0 where
   pub params : AllZip (λ p sort. IsSort spec p.sort sort) b.code.params m.params
   pub names : m.names ≡ map (λ p. p.name.name) b.code.params
   pub clauses : AllZip (IsTestOf spec (scope_at b 0)) b.code.clauses m.clauses
-  pub body : AreActsOf spec b 0 b.code.body m.body
+  pub body : AreActsOf spec b 0 b.code.body (statements_of m.body)
   pub result : IsResultOf spec b b.constructor m.result m.value
   pub gives : m.gives ≡ gives_value b
 

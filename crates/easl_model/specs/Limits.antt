@@ -1,13 +1,11 @@
 -- The stated limits on clauses and bodies.
-use Rattle.std.specs.Prelude.{ℕ, zero, suc, ◌+◌, ◌≤◌, All, length, Option, Some, None, IfSome, slice_get, if◌then◌else◌}
+use Rattle.std.specs.Prelude.{ℕ, zero, suc, ◌+◌, ◌≤◌, length, Option, Some, None, IfSome, slice_get, if◌then◌else◌}
 use Rattle.std.specs.Option.{option_map_or}
 use Rattle.easl_model.specs.Form.{Form, constructor_of}
-use Rattle.easl_model.specs.Statements.{Statement, Statements, statements_of, Local, Change, Write, none, ◌▸◌}
+use Rattle.easl_model.specs.Statements.{Statement, Statements, statements_of, Local, Change, Write, If, none, ◌▸◌}
 use Rattle.easl_model.specs.declared.form.Method.{Method}
 use Rattle.easl_model.specs.declared.form.Source.{Source}
 use Rattle.easl_model.specs.declared.form.Source.TheVariants.{Reach, Make}
-use Rattle.easl_model.specs.declared.form.Act.{Act}
-use Rattle.easl_model.specs.declared.form.Act.TheVariants as act
 
 -- the statements of a method or a constructor
 abbrev pub body_of : Form → ℕ → Statements
@@ -18,14 +16,17 @@ abbrev pub count_of : (ℕ → ℕ) → Source → ℕ
 count_of constructor (Reach r) = 0
 count_of constructor (Make class args) = constructor class
 
-abbrev pub statement_count : (ℕ → ℕ) → Statement → ℕ
-statement_count constructor (Local v) = suc (count_of constructor v)
-statement_count constructor (Change slot v) = suc (count_of constructor v)
-statement_count constructor (Write target field v) = suc (count_of constructor v)
+abbrev mutual
+  -- those of both branches are counted
+  pub statement_count : (ℕ → ℕ) → Statement → ℕ
+  statement_count constructor (Local v) = suc (count_of constructor v)
+  statement_count constructor (Change slot v) = suc (count_of constructor v)
+  statement_count constructor (Write target field v) = suc (count_of constructor v)
+  statement_count constructor (If c first second) = suc (total_count constructor first + total_count constructor second)
 
-abbrev pub total_count : (ℕ → ℕ) → Statements → ℕ
-total_count constructor none = 0
-total_count constructor (x ▸ xs) = statement_count constructor x + total_count constructor xs
+  pub total_count : (ℕ → ℕ) → Statements → ℕ
+  total_count constructor none = 0
+  total_count constructor (x ▸ xs) = statement_count constructor x + total_count constructor xs
 
 -- the statements of a class's constructor with those of the constructors that it calls, so deep
 abbrev pub constructor_count : Form → ℕ → ℕ → ℕ
@@ -47,14 +48,32 @@ abbrev pub HasFewArguments : Source → Type 0
 HasFewArguments (Reach r) = Unit {0}
 HasFewArguments (Make class args) = length args ≤ 4
 
-abbrev pub ActHasFewArguments : Act → Type 0
-ActHasFewArguments (act.Local v) = HasFewArguments v
-ActHasFewArguments (act.Change slot v) = HasFewArguments v
-ActHasFewArguments (act.Write target field v) = HasFewArguments v
+abbrev mutual
+  pub ActHasFewArguments : Statement → Type 0
+  ActHasFewArguments (Local v) = HasFewArguments v
+  ActHasFewArguments (Change slot v) = HasFewArguments v
+  ActHasFewArguments (Write target field v) = HasFewArguments v
+  ActHasFewArguments (If c first second) = ActsHaveFewArguments first × ActsHaveFewArguments second
+
+  pub ActsHaveFewArguments : Statements → Type 0
+  ActsHaveFewArguments none = Unit {0}
+  ActsHaveFewArguments (x ▸ xs) = ActHasFewArguments x × ActsHaveFewArguments xs
+
+abbrev mutual
+  -- how many statements are written, those in branches counted
+  pub written_by : Statement → ℕ
+  written_by (Local v) = 1
+  written_by (Change slot v) = 1
+  written_by (Write target field v) = 1
+  written_by (If c first second) = suc (written_in first + written_in second)
+
+  pub written_in : Statements → ℕ
+  written_in none = 0
+  written_in (x ▸ xs) = written_by x + written_in xs
 
 pub record MethodKeepsLimits (form : Form) (m : Method) : Type 0 where
   pub clauses : length m.clauses ≤ 16
-  pub written : length m.body ≤ 64
-  pub body : All ActHasFewArguments m.body
+  pub written : written_in (statements_of m.body) ≤ 64
+  pub body : ActsHaveFewArguments (statements_of m.body)
   pub value : IfSome m.value HasFewArguments
   pub in_place : count_in_place form m ≤ 1024

@@ -14,12 +14,13 @@ pub struct CheckedSpec {
 impl Model for CheckedSpec {
     ghost use Rattle.easl_model.specs.Checked.{IsChecked, IsInRange};
     ghost use Rattle.easl_model.specs.Form.{Form};
+    ghost use Rattle.easl_model.specs.contracts.form.Act as act;
     ghost use Rattle.easl_model.specs.contracts.form.Test as test;
     ghost use Rattle.std.specs.Coded.{codes};
 
     ghost Value = { Form };
 
-    ghost coded = { Prim.hlevel (codes, test.the_row.coded) };
+    ghost coded = { Prim.hlevel (codes, act.the_row.coded, test.the_row.coded) };
 
     ghost view = { λ s. record { classes = s.classes; methods = s.methods } };
 

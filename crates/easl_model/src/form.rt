@@ -47,12 +47,14 @@ pub struct Reach {
 }
 
 /// A statement: `Local` declares the next slot, `Change` assigns a slot, `Write` assigns a field of what the
-/// `Reach` gives.
+/// `Reach` gives. `If` has the statements that are executed where its condition is true, and those that are where it
+/// is false; the slots that a list declares end with it.
 #[derive(Debug, Drop)]
 pub enum Act {
     Local(Source),
     Change(u32, Source),
     Write(Reach, u32, Source),
+    If(Test, Items<Act>, Items<Act>),
 }
 
 /// A value: what is reached, or a new object of the class, with its constructor's arguments; an opaque argument

@@ -1,8 +1,14 @@
-use Rattle.std.proofs.Common.{arith}
-use Rattle.easl_heap.specs.Body.{moment}
+use Rattle.std.proofs.Common.{rules, arith, ap, ◌∙◌, List, Bor}
+use Rattle.easl_model.specs.Conditions.{condition_of}
+use Rattle.easl_model.specs.Statements.{statement_of, statements_of}
+use Rattle.easl_model.specs.declared.form.Act.{Act}
+use Rattle.easl_model.proofs.Acts.{if_statement}
+use Rattle.easl_heap.specs.Body.{made, moment}
+use Rattle.easl_heap.proofs.Branches.{branch_ended}
 use Rattle.easl_heap.proofs.Called.{constructed}
 use Rattle.easl_heap.proofs.Underway.{goes_on, stops}
 use Rattle.easl_heap.proofs.body.+body.Goals as goal
+use Rattle.easl_heap.proofs.body.+body.Goals.{step-then-holds, step-else-holds}
 
 pub run-returns-then-steps-eq-MOST_STEPS-clause-comes :
     goal.run-returns-then-steps-eq-MOST_STEPS-clause-comes
@@ -35,3 +41,21 @@ construct-returns-clause-gives t c =
     c.frame-slots.ensures
     (rw c.as_slice-acts.ensures at c.run-steps.ensures.comes)
     c.method-constructor.ensures.limits
+
+pub step-returns-after-holds-clause-comes : goal.step-returns-after-holds-clause-comes
+step-returns-after-holds-clause-comes t c =
+    branch_ended (made c.args.spec.now c.args.depth)
+    (statement_of c.args.act.now)
+    (condition_of c.in-If.test) (statements_of c.in-If.first) (statements_of c.in-If.second) (statements_of c.if-holds.acts.now)
+    (moment c.args.objects.now.items c.args.slots.now.items c.args.steps)
+    (moment c.run-steps.new.objects.items c.run-steps.new.slots.items c.run-steps.result)
+    c.truncate.new.self.items
+    c.holds.result
+    (ap statement_of c.in-If.is ∙ if_statement c.in-If.test c.in-If.first c.in-If.second)
+    (search rules)
+    (elim c.if-holds.branch [
+      | step-then-holds w ↦ rw w.if-holds.true (ap statements_of (ap (λ (x : Bor (List Act)). x.now) w.acts-is ∙ w.as_slice-acts.ensures))
+      | step-else-holds w ↦ rw w.if-holds.false (ap statements_of (ap (λ (x : Bor (List Act)). x.now) w.acts-is ∙ w.as_slice-acts-else-holds.ensures))
+    ])
+    c.run-steps.ensures.comes
+    (search rules)
