@@ -2,7 +2,7 @@
 use Rattle.std.proofs.Common.{◌≡◌, ℕ, zero, suc, Bool, true, false, not, if◌then◌else◌, List, [], ◌∷◌, ◌++◌, length, take, Option, Some, None, slice_get, slice_index_or, slice_set, subst}
 use Rattle.easl_model.specs.Form.{Form, constructor_of, fields_of}
 use Rattle.easl_model.specs.Limits.{body_of}
-use Rattle.easl_model.specs.Statements.{Statement, Statements, statements_of, Local, Change, Write, none, ◌▸◌}
+use Rattle.easl_model.specs.Statements.{Statement, Statements, statements_of, Local, Change, Write, If, none, ◌▸◌}
 use Rattle.easl_model.specs.declared.form.Method.{Method}
 use Rattle.easl_model.specs.declared.form.Reach as path
 use Rattle.easl_model.specs.declared.form.Source.{Source}
@@ -60,6 +60,11 @@ module _ (form : Form) (most : Option ℕ) (variables : List (Option ℕ)) where
     last_fine [] x fine is = (is, tt)
     last_fine (v ∷ vs) x fine is = (fine.0, last_fine vs x fine.1 is)
 
+    take_fine : (n : ℕ) (vs : List Value) → AllFine vs → AllFine (take n vs)
+    take_fine zero vs fine = tt
+    take_fine (suc n) [] fine = tt
+    take_fine (suc n) (v ∷ vs) fine = (fine.0, take_fine n vs fine.1)
+
     abbrev pub FineOutcome : Outcome → Type 0
     FineOutcome x = FineWrites x.writes × IsFine x.result
 
@@ -96,22 +101,30 @@ module _ (form : Form) (most : Option ℕ) (variables : List (Option ℕ)) where
       value_comes s fine (Make class args) =
           comes_on AllFine FineOutcome (arguments form most answers s args) (λ vs. make class vs s.writes s.count) (arguments_come s fine args) (λ vs are. makes class vs s.writes s.count are fine.1)
 
-      step_comes : (s : State) → FineState s → (a : Statement) → Comes FineState (step form most answers make a s)
-      step_comes s fine (Local v) =
-          comes_on FineOutcome FineState (value form most answers make v s) (λ x. Done (state (s.slots ++ x.result ∷ []) x.writes x.count)) (value_comes s fine v)
-          (λ x so. (last_fine s.slots x.result fine.0 so.1, so.0))
-      step_comes s fine (Change slot v) =
-          comes_on FineOutcome FineState (value form most answers make v s) (λ x. Done (state (slice_set s.slots slot x.result) x.writes x.count)) (value_comes s fine v)
-          (λ x so. (set_fine s.slots slot x.result fine.0 so.1, so.0))
-      step_comes s fine (Write target p v) =
-          comes_on IsFine FineState (reached form most answers s target) (λ owner. value form most answers make v s >>= (λ x. Done (state s.slots (written form owner p x.result x.writes) x.count))) (told.reached_comes form most variables answers s fine target)
-          (λ owner is. comes_on FineOutcome FineState (value form most answers make v s) (λ x. Done (state s.slots (written form owner p x.result x.writes) x.count)) (value_comes s fine v)
-          (λ x so. (fine.0, written_fine owner p x.result x.writes is so.1 so.0)))
+      mutual
+        step_comes : (a : Statement) (s : State) → FineState s → Comes FineState (step form most answers make a s)
+        step_comes (Local v) s fine =
+            comes_on FineOutcome FineState (value form most answers make v s) (λ x. Done (state (s.slots ++ x.result ∷ []) x.writes x.count)) (value_comes s fine v)
+            (λ x so. (last_fine s.slots x.result fine.0 so.1, so.0))
+        step_comes (Change slot v) s fine =
+            comes_on FineOutcome FineState (value form most answers make v s) (λ x. Done (state (slice_set s.slots slot x.result) x.writes x.count)) (value_comes s fine v)
+            (λ x so. (set_fine s.slots slot x.result fine.0 so.1, so.0))
+        step_comes (Write target p v) s fine =
+            comes_on IsFine FineState (reached form most answers s target) (λ owner. value form most answers make v s >>= (λ x. Done (state s.slots (written form owner p x.result x.writes) x.count))) (told.reached_comes form most variables answers s fine target)
+            (λ owner is. comes_on FineOutcome FineState (value form most answers make v s) (λ x. Done (state s.slots (written form owner p x.result x.writes) x.count)) (value_comes s fine v)
+            (λ x so. (fine.0, written_fine owner p x.result x.writes is so.1 so.0)))
 
-      run_comes : (xs : Statements) (s : State) → FineState s → Comes FineState (run form most answers make xs s)
-      run_comes none s fine = fine
-      run_comes (a ▸ xs) s fine =
-          comes_on FineState FineState (step form most answers make a s) (λ t. run form most answers make xs t) (step_comes s fine a) (λ t so. run_comes xs t so)
+        step_comes (If c first second) s fine =
+            comes_on SomeAnswer FineState (holds form most answers s c) (λ b. (if b then run form most answers make first s else run form most answers make second s) >>= (λ t. Done (ended s t)))
+            (holds_comes form most variables answers s fine c)
+            (λ b any. comes_on FineState FineState (if b then run form most answers make first s else run form most answers make second s) (λ t. Done (ended s t))
+            (comes_if FineState b (run form most answers make first s) (run form most answers make second s) (run_comes first s fine) (run_comes second s fine))
+            (λ t so. (take_fine (length s.slots) t.slots so.0, so.1)))
+
+        run_comes : (xs : Statements) (s : State) → FineState s → Comes FineState (run form most answers make xs s)
+        run_comes none s fine = fine
+        run_comes (a ▸ xs) s fine =
+            comes_on FineState FineState (step form most answers make a s) (λ t. run form most answers make xs t) (step_comes a s fine) (λ t so. run_comes xs t so)
 
       returned_comes : (s : State) → FineState s → (v : Option Source) → Comes FineOutcome (returned form most answers make v s)
       returned_comes s fine None = (fine.1, tt)

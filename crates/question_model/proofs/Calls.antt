@@ -21,7 +21,7 @@ use Rattle.question_model.specs.declared.answer.Answer.{Answer}
 use Rattle.question_model.specs.declared.value.Value.{Value}
 use Rattle.question_model.proofs.Asking.{Agree, bound}
 use Rattle.question_model.proofs.Following.{Follows, Leaves}
-use Rattle.question_model.proofs.Heaps.{full_wide}
+use Rattle.easl_heap.proofs.Reading.{full_wide}
 use Rattle.question_model.proofs.Meaning.{AllGood, Matches, Start, denote}
 use Rattle.question_model.proofs.Steps.{made_so, returned_so, run_so}
 

@@ -1,5 +1,5 @@
 -- A body under way on symbolic values follows the body on the heap: its slots, and what paths lead to.
-use Rattle.std.proofs.Common.{◌≡◌, ℕ, zero, suc, ◌==◌, Bool, List, [], ◌∷◌, ◌++◌, map, fold, Option, slice_index, slice_index_or, slice_set, refl, ap, ap₂, sym, ◌∙◌}
+use Rattle.std.proofs.Common.{◌≡◌, ℕ, zero, suc, ◌==◌, Bool, List, [], ◌∷◌, ◌++◌, map, fold, take, Option, slice_index, slice_index_or, slice_set, refl, ap, ap₂, sym, ◌∙◌}
 use Rattle.easl_model.specs.Form.{Form}
 use Rattle.easl_model.specs.declared.form.Reach as path
 use Rattle.easl_heap.specs.Body as told
@@ -31,6 +31,12 @@ pub last_is : (before : List Object) (objects : List ℕ) (vs : List Value) (x :
 last_is before objects [] x = refl
 last_is before objects (v ∷ vs) x = ap (λ rest. denote before objects v ∷ rest) (last_is before objects vs x)
 
+pub take_is : (before : List Object) (objects : List ℕ) (n : ℕ) (vs : List Value)
+    → map (denote before objects) (take n vs) ≡ take n (map (denote before objects) vs)
+take_is before objects zero vs = refl
+take_is before objects (suc n) [] = refl
+take_is before objects (suc n) (v ∷ vs) = ap (λ rest. denote before objects v ∷ rest) (take_is before objects n vs)
+
 module _ (form : Form) (variables : List (Option ℕ)) (before : List Object) (objects : List ℕ) where
   pub good_slot : (heap : List Object) (vs : List Value) (k : ℕ) → AllGood form variables before objects heap vs → IsGood form variables before objects heap (slice_index_or vs k Nothing)
   good_slot heap [] k good = tt
@@ -45,6 +51,12 @@ module _ (form : Form) (variables : List (Option ℕ)) (before : List Object) (o
   pub good_last : (heap : List Object) (vs : List Value) (x : Value) → AllGood form variables before objects heap vs → IsGood form variables before objects heap x → AllGood form variables before objects heap (vs ++ x ∷ [])
   good_last heap [] x good is = (is, tt)
   good_last heap (v ∷ vs) x good is = (good.0, good_last heap vs x good.1 is)
+
+  pub good_take : (heap : List Object) (n : ℕ) (vs : List Value) → AllGood form variables before objects heap vs
+      → AllGood form variables before objects heap (take n vs)
+  good_take heap zero vs good = tt
+  good_take heap (suc n) [] good = tt
+  good_take heap (suc n) (v ∷ vs) good = (good.0, good_take heap n vs good.1)
 
   -- a body under way on symbolic values, and the same on the heap
   pub record Follows (s : State) (heap : List Object) (slots : List ℕ) : Type 0 where

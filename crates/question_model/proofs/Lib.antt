@@ -7,7 +7,6 @@ pub mod Calls
 pub mod Conditions
 pub mod Cubes
 pub mod Following
-pub mod Heaps
 pub mod Meaning
 pub mod Orders
 pub mod Reading

@@ -5,7 +5,7 @@ use Rattle.easl_heap.specs.Full.{KeepsClasses}
 use Rattle.easl_heap.specs.Heap.{Object, IsFull, IsObjectOf, get}
 use Rattle.access_paths.specs.Fitting.{IsTermOf}
 use Rattle.access_paths.specs.Truth.{object_of}
-use Rattle.question_model.proofs.Heaps.{AreWide}
+use Rattle.easl_heap.proofs.Reading.{AreWide}
 use Rattle.question_model.specs.declared.value.Value.TheVariants.{Before, Fresh, Nothing}
 use Rattle.question_model.specs.declared.value.Value.{Value}
 use Rattle.question_model.specs.declared.value.Write.{Write}

@@ -13,7 +13,7 @@ use Rattle.access_paths.specs.declared.term.Term.{Term}
 use Rattle.question_model.specs.Stage.{Done, Long}
 use Rattle.question_model.specs.Values.{are_same, extended, field_of, is_found, is_write_of, led, may_grow, through, unwritten}
 use Rattle.question_model.proofs.Asking.{Agree, ask_so, bound}
-use Rattle.question_model.proofs.Heaps.{both_same, full_wide, get_beyond, get_no_field, same_both}
+use Rattle.easl_heap.proofs.Reading.{both_same, full_wide, get_beyond, get_no_field, same_both}
 use Rattle.question_model.proofs.Meaning.{AllGoodWrites, IsGood, IsGoodWrite, Matches, Start, after, denote}
 use Rattle.question_model.specs.declared.answer.Answer.{Answer}
 use Rattle.question_model.specs.declared.value.Value.TheVariants.{Before, Fresh, Nothing}

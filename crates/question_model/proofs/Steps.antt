@@ -1,9 +1,10 @@
 -- A body on symbolic values follows the body on the heap.
 use Rattle.std.proofs.Common.{◌≡◌, ℕ, zero, suc, ◌+◌, ◌==◌, ◌&&◌, if◌then◌else◌, Bool, true, false, List, [], ◌∷◌, ◌++◌, length, map, take, Option, Some, None, slice_get, slice_set, arith, refl, ap, ap₂, sym, subst, ◌∙◌}
 use Rattle.std.proofs.lemmas.List.{length-map}
+use Rattle.std.proofs.lemmas.Option.{slice_get_within}
 use Rattle.easl_model.specs.Form.{Form, constructor_of, fields_of}
 use Rattle.easl_model.specs.Limits.{body_of}
-use Rattle.easl_model.specs.Statements.{Statement, Statements, Local, Change, Write, none, ◌▸◌}
+use Rattle.easl_model.specs.Statements.{Statement, Statements, Local, Change, Write, If, none, ◌▸◌}
 use Rattle.easl_model.specs.declared.form.Reach as path
 use Rattle.easl_model.specs.declared.form.Source.{Source}
 use Rattle.easl_model.specs.declared.form.Source.TheVariants.{Reach, Make}
@@ -24,8 +25,8 @@ use Rattle.question_model.specs.declared.value.Value.{Value}
 use Rattle.question_model.specs.declared.value.Write as values
 use Rattle.question_model.proofs.Asking.{Agree, bound}
 use Rattle.question_model.proofs.Conditions.{holds_so}
-use Rattle.question_model.proofs.Following.{Follows, Leaves, good_last, good_set, last_is, reached_so, set_is}
-use Rattle.question_model.proofs.Heaps.{adding_wide, get_adding, get_write, some_within, write_no_field, writing_wide}
+use Rattle.question_model.proofs.Following.{Follows, Leaves, good_last, good_set, good_take, last_is, reached_so, set_is, take_is}
+use Rattle.easl_heap.proofs.Reading.{adding_wide, get_adding, get_write, write_no_field, writing_wide}
 use Rattle.question_model.proofs.Meaning.{AllGood, IsGood, Matches, Start, denote, stay_good, stays_good, writes_stay}
 use Rattle.question_model.proofs.Reading.{term_object}
 
@@ -57,7 +58,7 @@ module _ (form : Form) (variables : List (Option ℕ)) (before : List Object) (o
           writes_stay form variables before objects heap new ws keeps m.good,
         );
         fields = λ k q.
-            get_write heap n p (denote before objects v) k q o.0 o.1 (omega (arith, some_within (fields_of form class) p of at, m.wide n o.0 o.1, ap (λ c. length (fields_of form c)) o.2))
+            get_write heap n p (denote before objects v) k q o.0 o.1 (omega (arith, slice_get_within (fields_of form class) p of at, m.wide n o.0 o.1, ap (λ c. length (fields_of form c)) o.2))
             ∙ ap (λ z. if n == k && p == q then denote before objects v else z) (m.fields k q);
       }
 
@@ -125,67 +126,104 @@ module _ (form : Form) (variables : List (Option ℕ)) (before : List Object) (o
           subst (λ ns. Leaves form variables before objects x m.heap (real class ns m.heap m.steps)) got.1
           (simulates class two.0 s.writes s.count m.heap m.steps x f.matches got.0 two.2)
 
-      step_so : (s : State) (m : told.Moment) → Follows form variables before objects s m.heap m.slots → (a : Statement) (t : State) → step form most answers make a s ≡ Done t → Follows form variables before objects t (told.step real a m).heap (told.step real a m).slots × KeepsClasses m.heap (told.step real a m).heap
-      step_so s m f (Local v) t done =
-          let two = bound (value form most answers make v s) (λ x. Done (state (s.slots ++ x.result ∷ []) x.writes x.count)) t done in
-          let l = value_so s m f v two.0 two.1 in
-          let x : Outcome = two.0 in
-          let o : told.Outcome = told.value real v m in
-          let one : state (s.slots ++ x.result ∷ []) x.writes x.count ≡ t = let e = two.2 in cc in (
-            subst (λ (y : State). Follows form variables before objects y o.heap (m.slots ++ o.result ∷ [])) one
-                (record {
-                  matches = l.matches;
-                  slots_are = ap₂ (λ ns n. ns ++ n ∷ []) f.slots_are l.result ∙ sym (last_is before objects s.slots x.result);
-                  good = good_last form variables before objects o.heap s.slots x.result (stay_good form variables before objects m.heap o.heap s.slots l.kept f.good) l.good;
-                }),
-            l.kept,
-          )
-      step_so s m f (Change slot v) t done =
-          let two = bound (value form most answers make v s) (λ x. Done (state (slice_set s.slots slot x.result) x.writes x.count)) t done in
-          let l = value_so s m f v two.0 two.1 in
-          let x : Outcome = two.0 in
-          let o : told.Outcome = told.value real v m in
-          let one : state (slice_set s.slots slot x.result) x.writes x.count ≡ t = let e = two.2 in cc in (
-            subst (λ (y : State). Follows form variables before objects y o.heap (slice_set m.slots slot o.result)) one
-                (record {
-                  matches = l.matches;
-                  slots_are = ap₂ (λ ns n. slice_set ns slot n) f.slots_are l.result ∙ sym (set_is before objects s.slots slot x.result);
-                  good = good_set form variables before objects o.heap s.slots slot x.result (stay_good form variables before objects m.heap o.heap s.slots l.kept f.good) l.good;
-                }),
-            l.kept,
-          )
-      step_so s m f (Write target p v) t done =
-          let owned = bound (reached form most answers s target) (λ owner. value form most answers make v s >>= (λ x. Done (state s.slots (written form owner p x.result x.writes) x.count))) t done in
-          let two = bound (value form most answers make v s) (λ x. Done (state s.slots (written form owned.0 p x.result x.writes) x.count)) t owned.2 in
-          let got = reached_so form variables before objects start most answers agree s m.heap m.slots f target owned.0 owned.1 in
-          let l = value_so s m f v two.0 two.1 in
-          let x : Outcome = two.0 in
-          let o : told.Outcome = told.value real v m in
-          let n = heap_of.reached m.heap m.slots target in
-          let one : state s.slots (written form owned.0 p x.result x.writes) x.count ≡ t = let e = two.2 in cc in
-          let keeps = writing_keeps o.heap n p o.result in
-          let both : KeepsClasses m.heap (write o.heap n p o.result) = λ c k is. keeps c k (l.kept c k is) in
-          let new : Matches form variables before objects (written form owned.0 p x.result x.writes) x.count (write o.heap (denote before objects owned.0) p (denote before objects x.result)) = written_so x.writes x.count o.heap l.matches owned.0 (stays_good form variables before objects m.heap o.heap owned.0 l.kept got.0) p x.result l.good in (
-            subst (λ (y : State). Follows form variables before objects y (write o.heap n p o.result) m.slots) one
-                (record {
-                  matches = subst (λ k. Matches form variables before objects (written form owned.0 p x.result x.writes) x.count (write o.heap n p k)) (sym l.result)
-                      (subst (λ k. Matches form variables before objects (written form owned.0 p x.result x.writes) x.count (write o.heap k p (denote before objects x.result))) got.1 new);
-                  slots_are = f.slots_are;
-                  good = stay_good form variables before objects m.heap (write o.heap n p o.result) s.slots both f.good;
-                }),
-            both,
+      -- where it goes from here, objects keep their classes
+      abbrev Goes : told.Moment → State → told.Moment → Type 0
+      Goes m t n = Follows form variables before objects t n.heap n.slots × KeepsClasses m.heap n.heap
+
+      -- at the end of a list its locals end
+      ended_so : (s : State) (m : told.Moment) → Follows form variables before objects s m.heap m.slots
+          → (t : State) (n : told.Moment) → Goes m t n → Goes m (ended s t) (told.ended m n)
+      ended_so s m f t n goes =
+          let long : length m.slots ≡ length s.slots = ap length f.slots_are ∙ length-map s.slots (denote before objects) in (
+            record {
+              matches = goes.0.matches;
+              slots_are = ap₂ take long goes.0.slots_are ∙ sym (take_is before objects (length s.slots) t.slots);
+              good = good_take form variables before objects n.heap (length s.slots) t.slots goes.0.good;
+            },
+            goes.1,
           )
 
-      pub run_so : (xs : Statements) (s : State) (m : told.Moment) → Follows form variables before objects s m.heap m.slots → (t : State) → run form most answers make xs s ≡ Done t → Follows form variables before objects t (told.run real xs m).heap (told.run real xs m).slots × KeepsClasses m.heap (told.run real xs m).heap
-      run_so none s m f t done =
-          let one : s ≡ t = cc in
-          (subst (λ (y : State). Follows form variables before objects y m.heap m.slots) one f, λ c k is. is)
-      run_so (a ▸ xs) s m f t done =
-          let two = bound (step form most answers make a s) (λ u. run form most answers make xs u) t done in
-          let first = step_so s (told.counted m) f a two.0 two.1 in
-          let m' : told.Moment = told.step real a (told.counted m) in
-          let rest = run_so xs two.0 m' first.0 t two.2 in
-          (rest.0, λ c k is. rest.1 c k (first.1 c k is))
+      -- one of the two lists is executed
+      chosen : (s : State) (m : told.Moment) (first second : Statements)
+          → ((t : State) → run form most answers make first s ≡ Done t → Goes m t (told.run real first m))
+          → ((t : State) → run form most answers make second s ≡ Done t → Goes m t (told.run real second m))
+          → (b : Bool) (t : State) → (if b then run form most answers make first s else run form most answers make second s) ≡ Done t
+          → Goes m t (if b then told.run real first m else told.run real second m)
+      chosen s m first second one other true t done = one t done
+      chosen s m first second one other false t done = other t done
+
+      mutual
+        step_so : (a : Statement) (s : State) (m : told.Moment) → Follows form variables before objects s m.heap m.slots → (t : State) → step form most answers make a s ≡ Done t → Follows form variables before objects t (told.step real a m).heap (told.step real a m).slots × KeepsClasses m.heap (told.step real a m).heap
+        step_so (Local v) s m f t done =
+            let two = bound (value form most answers make v s) (λ x. Done (state (s.slots ++ x.result ∷ []) x.writes x.count)) t done in
+            let l = value_so s m f v two.0 two.1 in
+            let x : Outcome = two.0 in
+            let o : told.Outcome = told.value real v m in
+            let one : state (s.slots ++ x.result ∷ []) x.writes x.count ≡ t = let e = two.2 in cc in (
+              subst (λ (y : State). Follows form variables before objects y o.heap (m.slots ++ o.result ∷ [])) one
+                  (record {
+                    matches = l.matches;
+                    slots_are = ap₂ (λ ns n. ns ++ n ∷ []) f.slots_are l.result ∙ sym (last_is before objects s.slots x.result);
+                    good = good_last form variables before objects o.heap s.slots x.result (stay_good form variables before objects m.heap o.heap s.slots l.kept f.good) l.good;
+                  }),
+              l.kept,
+            )
+        step_so (Change slot v) s m f t done =
+            let two = bound (value form most answers make v s) (λ x. Done (state (slice_set s.slots slot x.result) x.writes x.count)) t done in
+            let l = value_so s m f v two.0 two.1 in
+            let x : Outcome = two.0 in
+            let o : told.Outcome = told.value real v m in
+            let one : state (slice_set s.slots slot x.result) x.writes x.count ≡ t = let e = two.2 in cc in (
+              subst (λ (y : State). Follows form variables before objects y o.heap (slice_set m.slots slot o.result)) one
+                  (record {
+                    matches = l.matches;
+                    slots_are = ap₂ (λ ns n. slice_set ns slot n) f.slots_are l.result ∙ sym (set_is before objects s.slots slot x.result);
+                    good = good_set form variables before objects o.heap s.slots slot x.result (stay_good form variables before objects m.heap o.heap s.slots l.kept f.good) l.good;
+                  }),
+              l.kept,
+            )
+        step_so (Write target p v) s m f t done =
+            let owned = bound (reached form most answers s target) (λ owner. value form most answers make v s >>= (λ x. Done (state s.slots (written form owner p x.result x.writes) x.count))) t done in
+            let two = bound (value form most answers make v s) (λ x. Done (state s.slots (written form owned.0 p x.result x.writes) x.count)) t owned.2 in
+            let got = reached_so form variables before objects start most answers agree s m.heap m.slots f target owned.0 owned.1 in
+            let l = value_so s m f v two.0 two.1 in
+            let x : Outcome = two.0 in
+            let o : told.Outcome = told.value real v m in
+            let n = heap_of.reached m.heap m.slots target in
+            let one : state s.slots (written form owned.0 p x.result x.writes) x.count ≡ t = let e = two.2 in cc in
+            let keeps = writing_keeps o.heap n p o.result in
+            let both : KeepsClasses m.heap (write o.heap n p o.result) = λ c k is. keeps c k (l.kept c k is) in
+            let new : Matches form variables before objects (written form owned.0 p x.result x.writes) x.count (write o.heap (denote before objects owned.0) p (denote before objects x.result)) = written_so x.writes x.count o.heap l.matches owned.0 (stays_good form variables before objects m.heap o.heap owned.0 l.kept got.0) p x.result l.good in (
+              subst (λ (y : State). Follows form variables before objects y (write o.heap n p o.result) m.slots) one
+                  (record {
+                    matches = subst (λ k. Matches form variables before objects (written form owned.0 p x.result x.writes) x.count (write o.heap n p k)) (sym l.result)
+                        (subst (λ k. Matches form variables before objects (written form owned.0 p x.result x.writes) x.count (write o.heap k p (denote before objects x.result))) got.1 new);
+                    slots_are = f.slots_are;
+                    good = stay_good form variables before objects m.heap (write o.heap n p o.result) s.slots both f.good;
+                  }),
+              both,
+            )
+
+        step_so (If c first second) s m f t done =
+            let two = bound (holds form most answers s c) (λ b. (if b then run form most answers make first s else run form most answers make second s) >>= (λ u. Done (ended s u))) t done in
+            let ran = bound (if two.0 then run form most answers make first s else run form most answers make second s) (λ u. Done (ended s u)) t two.2 in
+            let is = holds_so form variables before objects start most answers agree s m.heap m.slots f c two.0 two.1 in
+            let goes = chosen s m first second (λ u. run_so first s m f u) (λ u. run_so second s m f u) two.0 ran.0 ran.1 in
+            let last : ended s ran.0 ≡ t = let e = ran.2 in cc in
+            let all = ended_so s m f ran.0 (if two.0 then told.run real first m else told.run real second m) goes in
+            subst (λ b. Goes m t (told.ended m (if b then told.run real first m else told.run real second m))) is
+            (subst (λ (y : State). Goes m y (told.ended m (if two.0 then told.run real first m else told.run real second m))) last all)
+
+        pub run_so : (xs : Statements) (s : State) (m : told.Moment) → Follows form variables before objects s m.heap m.slots → (t : State) → run form most answers make xs s ≡ Done t → Follows form variables before objects t (told.run real xs m).heap (told.run real xs m).slots × KeepsClasses m.heap (told.run real xs m).heap
+        run_so none s m f t done =
+            let one : s ≡ t = cc in
+            (subst (λ (y : State). Follows form variables before objects y m.heap m.slots) one f, λ c k is. is)
+        run_so (a ▸ xs) s m f t done =
+            let two = bound (step form most answers make a s) (λ u. run form most answers make xs u) t done in
+            let first = step_so a s (told.counted m) f two.0 two.1 in
+            let m' : told.Moment = told.step real a (told.counted m) in
+            let rest = run_so xs two.0 m' first.0 t two.2 in
+            (rest.0, λ c k is. rest.1 c k (first.1 c k is))
 
       pub returned_so : (s : State) (m : told.Moment) → Follows form variables before objects s m.heap m.slots → (v : Option Source) (x : Outcome) → returned form most answers make v s ≡ Done x → Leaves form variables before objects x m.heap (told.returned real v m)
       returned_so s m f None x done =

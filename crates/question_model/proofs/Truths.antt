@@ -27,7 +27,7 @@ use Rattle.question_model.proofs.Calls.{Begins, begins, called_so, start_matches
 use Rattle.question_model.proofs.Conditions.{holds_so}
 use Rattle.question_model.proofs.Cubes.{AllKnown, IsKnown, cube_so}
 use Rattle.question_model.proofs.Following.{Follows, Leaves}
-use Rattle.question_model.proofs.Heaps.{some_within}
+use Rattle.std.proofs.lemmas.Option.{slice_get_within}
 use Rattle.question_model.proofs.Meaning.{IsGood, Start, denote}
 
 -- where each answer that is done is right, the tree's answer is
@@ -94,8 +94,8 @@ module _ (form : Form) (m : Method) (family : Family) (results : ℕ) (before : 
           let less = unmapped family.classes k.less.var.0 is.less.start is.less.variable in
           let more = unmapped family.classes k.more.var.0 is.more.start is.more.variable in (
             record {
-              less = known_at k.less.var.0 is.less.start (omega (arith, fits.few, some_within family.classes k.less.var.0 is.less.start less)) less;
-              more = known_at k.more.var.0 is.more.start (omega (arith, fits.few, some_within family.classes k.more.var.0 is.more.start more)) more;
+              less = known_at k.less.var.0 is.less.start (omega (arith, fits.few, slice_get_within family.classes k.less.var.0 is.less.start less)) less;
+              more = known_at k.more.var.0 is.more.start (omega (arith, fits.few, slice_get_within family.classes k.more.var.0 is.more.start more)) more;
             },
             both_known ls (λ n d within. all (suc n) d (omega arith)),
           )

@@ -2,7 +2,7 @@
 use Rattle.std.specs.Prelude.{ℕ, zero, suc, List, [], ◌∷◌, ◌++◌, Option, Some, None, if◌then◌else◌, length, slice_set}
 use Rattle.easl_model.specs.Form.{Form, constructor_of}
 use Rattle.easl_model.specs.Limits.{body_of}
-use Rattle.easl_model.specs.Statements.{Statement, Statements, statements_of, Local, Change, Write, none, ◌▸◌}
+use Rattle.easl_model.specs.Statements.{Statement, Statements, statements_of, Local, Change, Write, If, none, ◌▸◌}
 use Rattle.easl_model.specs.declared.form.Method.{Method}
 use Rattle.easl_model.specs.declared.form.Reach as path
 use Rattle.easl_model.specs.declared.form.Source.{Source}
@@ -41,17 +41,21 @@ module _ (form : Form) (most : Option ℕ) (answers : List Answer) where
   value make (Reach path) s = reached form most answers s path >>= λ v. Done (outcome s.writes s.count v)
   value make (Make class args) s = arguments s args >>= λ vs. make class vs s.writes s.count
 
-  -- the object whose field is written is found before the value; of an `if` one list is executed
-  abbrev pub step : Making → Statement → State → Stage State
-  step make (Local v) s = value make v s >>= λ x. Done (state (s.slots ++ x.result ∷ []) x.writes x.count)
-  step make (Change slot v) s = value make v s >>= λ x. Done (state (slice_set s.slots slot x.result) x.writes x.count)
-  step make (Write target position v) s =
+  abbrev mutual
+    -- the object whose field is written is found before the value; of an `if` one list is executed
+    pub step : Making → Statement → State → Stage State
+    step make (Local v) s = value make v s >>= λ x. Done (state (s.slots ++ x.result ∷ []) x.writes x.count)
+    step make (Change slot v) s = value make v s >>= λ x. Done (state (slice_set s.slots slot x.result) x.writes x.count)
+    step make (Write target position v) s =
         reached form most answers s target
         >>= λ owner. value make v s >>= λ x. Done (state s.slots (written form owner position x.result x.writes) x.count)
+    step make (If c first second) s =
+        holds form most answers s c
+        >>= λ b. (if b then run make first s else run make second s) >>= λ t. Done (ended s t)
 
-  abbrev pub run : Making → Statements → State → Stage State
-  run make none s = Done s
-  run make (x ▸ xs) s = step make x s >>= λ t. run make xs t
+    pub run : Making → Statements → State → Stage State
+    run make none s = Done s
+    run make (x ▸ xs) s = step make x s >>= λ t. run make xs t
 
   -- a fresh object takes the next number, and then its class's constructor is executed in place on it
   abbrev pub made : ℕ → Making
