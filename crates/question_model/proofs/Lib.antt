@@ -6,6 +6,7 @@ pub mod Asking
 pub mod Calls
 pub mod Conditions
 pub mod Cubes
+pub mod Examples
 pub mod Following
 pub mod Meaning
 pub mod Orders
