@@ -61,10 +61,10 @@ write_no_field form heap class n p v wide is none =
     write_past_field heap n p v o.0 o.1 (no_field form heap class n p wide is none)
 
 -- two pairs of numbers are one
-both_same : (a b c d : ℕ) → (a == b && c == d) ≡ true → (a ≡ b) × (c ≡ d)
+pub both_same : (a b c d : ℕ) → (a == b && c == d) ≡ true → (a ≡ b) × (c ≡ d)
 both_same a b c d e = (eqb-true a b (first_so (a == b) (c == d) e), eqb-true c d (second_so (a == b) (c == d) e))
 
-same_both : (a b c d : ℕ) → a ≡ b → c ≡ d → (a == b && c == d) ≡ true
+pub same_both : (a b c d : ℕ) → a ≡ b → c ≡ d → (a == b && c == d) ≡ true
 same_both a b c d e f = ap₂ (λ s t. s && t) (eq-eqb a b e) (eq-eqb c d f)
 
 module _ (heap : List Object) (owner p v n q : ℕ) where

@@ -30,8 +30,3 @@ AreOfClasses form method heap args = IfSome (slice_get form.methods method) (λ 
 -- the method's result is an object of its class, and 0 where the method gives none
 abbrev pub GivesClass : Form → ℕ → List Object → ℕ → Type 0
 GivesClass form method heap n = IfSome (slice_get form.methods method) (λ m. IsGiven heap m.result n)
-
--- from a class, the fields at these positions lead to a class
-abbrev pub FieldsLead : Form → ℕ → List ℕ → ℕ → Type 0
-FieldsLead form class [] end = class ≡ end
-FieldsLead form class (p ∷ ps) end = (next : ℕ) × (slice_get (fields_of form class) p ≡ Some next) × FieldsLead form next ps end

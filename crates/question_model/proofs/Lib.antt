@@ -1,0 +1,16 @@
+pub mod AskedBodies
+pub mod AskedConditions
+pub mod AskedTerms
+pub mod AskedValues
+pub mod Asking
+pub mod Calls
+pub mod Conditions
+pub mod Cubes
+pub mod Examples
+pub mod Following
+pub mod Meaning
+pub mod Orders
+pub mod Reading
+pub mod Steps
+pub mod TreeLaws
+pub mod Truths

@@ -1,0 +1,8 @@
+//! The trees of questions: when a cube is true after a body, and when a clause is false (weakest preconditions).
+#![tactic(auto)]
+
+mod body;
+mod branch;
+mod condition;
+mod field;
+mod stop;
