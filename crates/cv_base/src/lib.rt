@@ -8,8 +8,6 @@ mod push;
 mod shelf;
 mod sink;
 mod status;
-#[cfg(test)]
-mod tests;
 
 pub use bytes::Bytes;
 pub use mem_shelf::{Held, MemShelf};
