@@ -7,8 +7,6 @@ mod certifying;
 mod command;
 mod deciding;
 mod disk_shelf;
-#[cfg(test)]
-mod heap_tests;
 mod lines;
 mod loading;
 mod running;

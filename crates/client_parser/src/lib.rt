@@ -3,8 +3,6 @@
 
 mod items;
 mod statements;
-#[cfg(test)]
-mod tests;
 mod values;
 mod whole;
 

@@ -9,8 +9,6 @@ mod push;
 mod shelf;
 mod sink;
 mod status;
-#[cfg(test)]
-mod tests;
 
 pub use bytes::Bytes;
 pub use list::List;

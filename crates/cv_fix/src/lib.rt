@@ -17,6 +17,3 @@ pub use laws::{closure_is_least, last_is_steady};
 pub use rules::{RuleStop, Rules};
 pub use steps::Steps;
 pub use twin::Twin;
-
-#[cfg(test)]
-mod tests;

@@ -4,8 +4,6 @@
 mod fault;
 mod piece;
 mod scan;
-#[cfg(test)]
-mod tests;
 
 pub use fault::{TextFault, Which};
 pub use scan::{one_list_of_tokens, tokens};

@@ -5,8 +5,6 @@ mod bodies;
 mod conditions;
 mod members;
 mod paths;
-#[cfg(test)]
-mod tests;
 mod whole;
 
 pub use whole::{one_answer, one_tree, read_spec};

@@ -1,4 +1,5 @@
-use crate::read_spec;
+//! Specifications that are read.
+use easl_parser::read_spec;
 use cv_lex::{TextFault, Which};
 use easl_model::{Code, Cond, Member, Opaque, Place, Sort, Step, Value};
 use std::test::Fail;

@@ -3,8 +3,8 @@ ghost use Rattle.std.specs.Prelude.{◌≡◌, ℕ, ◌+◌, ◌-◌, ◌/◌, �
 ghost use Rattle.cv_fix.specs.Answer.{IsAnswer};
 ghost use Rattle.cv_fix.specs.Last.{by_last};
 
-use super::*;
 use cv_base::Memory;
+use cv_fix::{CloseFault, Closed, RuleStop, Rules, Steps, Twin, close};
 use std::alloc::{AllocError, Global};
 use std::marker::Brand;
 use std::mem::size_of;

@@ -1,4 +1,5 @@
-use crate::read_client;
+//! Clients that are read.
+use client_parser::read_client;
 use client_model::{Proc, Rhs, Stmt, Test};
 use cv_lex::{TextFault, Which};
 use easl_model::{Opaque, Place, Sort};

@@ -1,4 +1,5 @@
-use crate::{
+//! Texts that are loaded and bytes that are written, on objects in memory.
+use cv_base::{
     Bytes, Held, LoadFault, MemShelf, MemSink, Memory, Shelf, Sink, SinkFault, push_bytes,
     push_number,
 };

@@ -1,4 +1,5 @@
-use crate::{TextFault, tokens};
+//! Tokens of small texts.
+use cv_lex::{TextFault, tokens};
 use easl_model::{Key, Kind, Mark, Place, Token};
 use std::test::Fail;
 
