@@ -1,7 +1,8 @@
 -- What the code has come to, in the words of the questions' meaning.
 use Rattle.std.specs.Prelude.{◌≡◌, ℕ, List, Option, Some, Vec, Result, Ok, Err}
 use Rattle.question_model.specs.Bodies.{Outcome, outcome}
-use Rattle.question_model.specs.Stage.{Stage, Done, Needs, Long}
+use Rattle.question_model.specs.Stage.{Stage, Done, Needs, Long, ◌>>=◌}
+use Rattle.question_model.specs.States.{State, ended}
 use Rattle.question_model.specs.declared.value.Value.{Value}
 use Rattle.question_model.specs.declared.value.Write.{Write}
 use Rattle.weakest_pre.specs.declared.stop.Stop.{Stop}
@@ -30,6 +31,10 @@ GivesItems s (Err e) = Stops s e
 abbrev pub GivesTo : {A X : Type 0} → Stage A → Result X Stop → A → Type 0
 GivesTo s (Ok x) a = s ≡ Done a
 GivesTo s (Err e) a = Stops s e
+
+-- a list of an `if` comes to this, and then its locals end
+abbrev pub closed : State → Stage State → Stage State
+closed before s = s >>= λ after. Done (ended before after)
 
 -- it is done and gives this value, with these writes and so many objects made
 abbrev pub Leaves : Stage Outcome → Result Value Stop → List Write → ℕ → Type 0

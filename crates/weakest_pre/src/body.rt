@@ -1,11 +1,12 @@
 //! Bodies on symbolic values, statement by statement. A constructor that is called is executed in place.
-ghost use Rattle.std.specs.Prelude.{◌≡◌, ◌<◌, [], ◌∷◌, ◌++◌, IfOk, IfSome, OnOk, length, slice_set};
+ghost use Rattle.std.specs.Prelude.{◌≡◌, ◌<◌, ◌≤◌, [], ◌∷◌, ◌++◌, IfOk, IfSome, OnOk, length, slice_set};
 ghost use Rattle.easl_model.specs.Form.{ActInRange, ActsInRange, MethodInRange, SourceInRange};
+ghost use Rattle.easl_model.specs.Limits.{MethodKeepsLimits, written_by, written_in};
 ghost use Rattle.easl_model.specs.Statements.{statement_of, statements_of};
 ghost use Rattle.question_model.specs.Bodies.{outcome, made};
 ghost use Rattle.question_model.specs.Bodies as told;
 ghost use Rattle.question_model.specs.States.{state};
-ghost use Rattle.weakest_pre.specs.Running.{Gives, GivesItems, GivesTo, Leaves, most};
+ghost use Rattle.weakest_pre.specs.Running.{Gives, GivesItems, GivesTo, Leaves, closed, most};
 
 use crate::branch::Branch;
 use crate::condition::Effects;
@@ -80,6 +81,7 @@ impl Branch<'_> {
 
     /// Executes the statements in order.
     #[cycle(body)]
+    #[tactic(auto, using(easl_heap::proofs::Underway::in_range_at, crate::proofs::Executing::written_at))]
     fn run(
         &self,
         depth: u32,
@@ -87,7 +89,8 @@ impl Branch<'_> {
         slots: &mut Vec<Value>,
         effects: &mut Effects,
     ) -> Result<(), Stop>
-        requires { ActsInRange (length self.now.spec.now.classes) (statements_of acts.now) }
+        requires range { ActsInRange (length self.now.spec.now.classes) (statements_of acts.now) }
+        requires written { written_in (statements_of acts.now) ≤ 64 }
         ensures { GivesTo
             (told.run self.now.spec.now most self.now.answers.now (made self.now.spec.now most self.now.answers.now depth)
             (statements_of acts.now) (state slots.old.items effects.old.writes.items effects.old.count))
@@ -107,7 +110,8 @@ impl Branch<'_> {
         slots: &mut Vec<Value>,
         effects: &mut Effects,
     ) -> Result<(), Stop>
-        requires { ActInRange (length self.now.spec.now.classes) (statement_of act.now) }
+        requires range { ActInRange (length self.now.spec.now.classes) (statement_of act.now) }
+        requires written { written_by (statement_of act.now) ≤ 64 }
         ensures { GivesTo
             (told.step self.now.spec.now most self.now.answers.now (made self.now.spec.now most self.now.answers.now depth)
             (statement_of act.now) (state slots.old.items effects.old.writes.items effects.old.count))
@@ -131,15 +135,39 @@ impl Branch<'_> {
                 Ok(())
             }
             Act::If(test, first, second) => {
-                let declared = slots.len();
                 if self.holds(slots.as_slice(), effects, test)? {
-                    self.run(depth, first.as_slice(), slots, effects)?;
+                    self.block(depth, first.as_slice(), slots, effects)
                 } else {
-                    self.run(depth, second.as_slice(), slots, effects)?;
+                    self.block(depth, second.as_slice(), slots, effects)
                 }
+            }
+        }
+    }
+
+    /// Executes the statements of one side of an `if`; their locals end with them.
+    #[cycle(body)]
+    fn block(
+        &self,
+        depth: u32,
+        acts: &[Act],
+        slots: &mut Vec<Value>,
+        effects: &mut Effects,
+    ) -> Result<(), Stop>
+        requires range { ActsInRange (length self.now.spec.now.classes) (statements_of acts.now) }
+        requires written { written_in (statements_of acts.now) ≤ 64 }
+        ensures { GivesTo
+            (closed (state slots.old.items effects.old.writes.items effects.old.count)
+            (told.run self.now.spec.now most self.now.answers.now (made self.now.spec.now most self.now.answers.now depth)
+            (statements_of acts.now) (state slots.old.items effects.old.writes.items effects.old.count)))
+            result (state slots.new.items effects.new.writes.items effects.new.count) }
+    {
+        let declared = slots.len();
+        match self.run(depth, acts, slots, effects) {
+            Ok(()) => {
                 slots.truncate(declared);
                 Ok(())
             }
+            Err(stop) => Err(stop),
         }
     }
 
@@ -225,6 +253,7 @@ impl Branch<'_> {
         effects: &mut Effects,
     ) -> Result<Value, Stop>
         requires range { MethodInRange (length self.now.spec.now.classes) method.now }
+        requires limits { MethodKeepsLimits self.now.spec.now method.now }
         requires writes { effects.old.writes.items ≡ [] }
         requires count { effects.old.count ≡ 0 }
         ensures { Leaves (told.called self.now.spec.now most self.now.answers.now method.now args.items)

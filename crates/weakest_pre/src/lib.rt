@@ -5,4 +5,5 @@ mod body;
 mod branch;
 mod condition;
 mod field;
+mod question;
 mod stop;
