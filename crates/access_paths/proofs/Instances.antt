@@ -52,10 +52,10 @@ one_family c of i j first second =
     (not_less_both (compare_instances i j) (compare_instances j i) (instances_total.antisymm j i) (second.least i first.instance) (first.least j second.instance))
 
 -- the variables of a cube's literal are variables of the cube
-of_less : (c : Cube) (l : Literal) → Contains c.literals l → HasVariable c l.less.var.0
+pub of_less : (c : Cube) (l : Literal) → Contains c.literals l → HasVariable c l.less.var.0
 of_less c l is = (is.0, l, is.1, is.2, inl refl)
 
-of_more : (c : Cube) (l : Literal) → Contains c.literals l → HasVariable c l.more.var.0
+pub of_more : (c : Cube) (l : Literal) → Contains c.literals l → HasVariable c l.more.var.0
 of_more c l is = (is.0, l, is.1, is.2, inr refl)
 
 module _ (c : Cube) (is_cube : IsCube c) (args : List Var) (arguments : (v : Var) → Contains args v ↔ HasVariable c v.0) where
