@@ -1,12 +1,11 @@
 -- The least of the instances, over all orders of the variables.
-use Rattle.std.proofs.Common.{inl, inr, ◌⊎◌, ◌↔◌, ◌≡◌, ◌≢◌, ℕ, ◌+◌, ◌<◌, ◌≤◌, Bool, true, false, List, [], ◌∷◌, ◌++◌, length, map, take, get_or, All, Contains, if◌then◌else◌, subst, arith, refl, ap, sym, ◌∙◌}
+use Rattle.std.proofs.Common.{inl, inr, ◌≡◌, ◌≢◌, ℕ, ◌+◌, ◌<◌, ◌≤◌, Bool, true, false, List, [], ◌∷◌, ◌++◌, length, map, take, get_or, All, Contains, if◌then◌else◌, subst, arith, refl, ap, sym, ◌∙◌}
 use Rattle.std.proofs.Math.Seq.{take-length}
 use Rattle.std.proofs.lemmas.Cmp.{tied_itself}
 use Rattle.std.proofs.lemmas.List.{length-map, take_more}
 use Rattle.std.proofs.lemmas.List.Elements.{Contains-push_cases}
 use Rattle.std.specs.Ordering.{is_lt}
-use Rattle.std.specs.declared.cmp.Ordering.{Ordering}
-use Rattle.std.specs.declared.cmp.Ordering.TheVariants.{Less, Equal, Greater}
+use Rattle.std.specs.declared.cmp.Ordering.TheVariants.{Less, Equal}
 use Rattle.access_paths.proofs.Ascending.{less_is}
 use Rattle.access_paths.proofs.Instances.{one_instance}
 use Rattle.access_paths.proofs.Members.{no_member}
@@ -77,11 +76,13 @@ module _ (c : Cube) (of : List ℕ) where
         all_members (λ args. AreArguments c args × (length args ≤ 8)) (orders (map var (variables c)))
         (λ args there.
         let is = each_order (map var (variables c)) args listed.once there in
-        let few = few_variables c in
-        (record {
-          once = is.distinct;
-          arguments = λ v. (λ in_args. (listed.arguments v).0 ((is.members v).0 in_args), λ has_it. (is.members v).1 ((listed.arguments v).1 has_it));
-        }, omega (arith, is.as_long)))
+        let few = few_variables c in (
+          record {
+            once = is.distinct;
+            arguments = λ v. (λ in_args. (listed.arguments v).0 ((is.members v).0 in_args), λ has_it. (is.members v).1 ((listed.arguments v).1 has_it));
+          },
+          omega (arith, is.as_long),
+        ))
 
     order_of : (i : Instance) → IsInstance c of i → Contains (orders (map var (variables c))) i.args
     order_of i is =

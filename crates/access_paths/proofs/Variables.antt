@@ -1,5 +1,5 @@
 -- The variables of a cube, listed, and places for them.
-use Rattle.std.proofs.Common.{inl, inr, ◌⊎◌, ◌↔◌, ◌≡◌, ◌≢◌, ℕ, zero, suc, ◌+◌, ◌<◌, ◌≤◌, ◌==◌, ◌||◌, Bool, true, false, cond, List, [], ◌∷◌, ◌++◌, length, map, filter, get_or, All, Any, Contains, Some, slice_get, slice_index, subst, arith, refl, ap, ap₂, sym, ◌∙◌}
+use Rattle.std.proofs.Common.{inl, inr, ◌⊎◌, ◌↔◌, ◌≡◌, ◌≢◌, ℕ, zero, suc, ◌<◌, ◌≤◌, ◌==◌, ◌||◌, Bool, true, false, cond, List, [], ◌∷◌, length, map, filter, get_or, Contains, Some, slice_get, slice_index, subst, arith, refl, ap, ap₂, sym, ◌∙◌}
 use Rattle.std.proofs.lemmas.Bool.Decides.{eqb_tells}
 use Rattle.std.proofs.lemmas.Bool.{eq-eqb, eqb-true}
 use Rattle.std.proofs.lemmas.Cmp.{tied_itself}
@@ -48,8 +48,8 @@ module _ {X : Type 0} (p : X → Bool) where
   of_filter [] x is = absurd (no_member x is)
   of_filter (y ∷ xs) x is =
       elim (kept_from y xs x (p y) refl is) [
-        inl first ↦ ((0, omega arith, first.0), first.1)
-      | inr after ↦ let rest = of_filter xs x after in (tail_member y xs x rest.0, rest.1)
+        | inl first ↦ ((0, omega arith, first.0), first.1)
+        | inr after ↦ let rest = of_filter xs x after in (tail_member y xs x rest.0, rest.1)
       ]
 
   kept_distinct : (y : X) (xs : List X) (b : Bool) → Distinct (y ∷ xs) → Distinct (filter p xs) → Distinct (cond b (y ∷ filter p xs) (filter p xs))
@@ -78,16 +78,16 @@ below_distinct (suc n) =
 has_tells : (v : ℕ) (l : Literal) → has v l ≡ true → (l.less.var.0 ≡ v) ⊎ (l.more.var.0 ≡ v)
 has_tells v l is =
     elim (eqb_tells l.less.var.0 v) [
-      inl less ↦ inl less.1
-    | inr not ↦ inr (eqb-true l.more.var.0 v (ap (λ b. b || (l.more.var.0 == v)) (sym not.0) ∙ is))
+      | inl less ↦ inl less.1
+      | inr not ↦ inr (eqb-true l.more.var.0 v (ap (λ b. b || (l.more.var.0 == v)) (sym not.0) ∙ is))
     ]
 
 has_told : (v : ℕ) (l : Literal) → (l.less.var.0 ≡ v) ⊎ (l.more.var.0 ≡ v) → has v l ≡ true
 has_told v l (inl less) = ap (λ b. b || (l.more.var.0 == v)) (eq-eqb l.less.var.0 v less)
 has_told v l (inr more) =
     elim (eqb_tells l.less.var.0 v) [
-      inl less ↦ ap (λ b. b || (l.more.var.0 == v)) less.0
-    | inr not ↦ ap (λ b. b || (l.more.var.0 == v)) not.0 ∙ eq-eqb l.more.var.0 v more
+      | inl less ↦ ap (λ b. b || (l.more.var.0 == v)) less.0
+      | inr not ↦ ap (λ b. b || (l.more.var.0 == v)) not.0 ∙ eq-eqb l.more.var.0 v more
     ]
 
 is_variable : (c : Cube) (v : ℕ) → Contains (variables c) v → HasVariable c v
@@ -114,10 +114,11 @@ pub variables_listed : (c : Cube) → ((v : ℕ) → HasVariable c v → v < 8) 
 variables_listed c known = record {
   once = map_var_distinct (variables c) (filter_distinct (λ w. list_any (has w) c.literals) (below 8) (below_distinct 8));
   arguments = λ v. (
-  λ there. let from = of_map var (variables c) v there in
-      let P : ℕ → Type 0 = HasVariable c in
-      subst P (ap (λ (a : Var). a.0) from.2) (is_variable c from.0 from.1),
-  λ is. in_map var (variables c) v.0 (variable_is c v.0 (known v.0 is) is));
+    λ there. let from = of_map var (variables c) v there in
+        let P : ℕ → Type 0 = HasVariable c in
+        subst P (ap (λ (a : Var). a.0) from.2) (is_variable c from.0 from.1),
+    λ is. in_map var (variables c) v.0 (variable_is c v.0 (known v.0 is) is),
+  );
 }
 
 pub few_variables : (c : Cube) → length (map var (variables c)) ≤ 8

@@ -1,5 +1,5 @@
 -- The arguments that a family of a cube can have: its variables in each order.
-use Rattle.std.specs.Prelude.{◌≢◌, ◌↔◌, ◌==◌, ◌||◌, ℕ, zero, suc, ◌+◌, Bool, List, [], ◌∷◌, ◌++◌, All, AllPairs, Contains, filter, insert, length, map}
+use Rattle.std.specs.Prelude.{◌≢◌, ◌↔◌, ◌==◌, ◌||◌, ℕ, zero, suc, ◌+◌, Bool, List, [], ◌∷◌, ◌++◌, AllPairs, Contains, filter, insert, length, map}
 use Rattle.std.specs.List.{flat_map, list_any}
 use Rattle.access_paths.specs.Families.{HasVariable, IsInstance, compare_instances}
 use Rattle.access_paths.specs.declared.term.Cube.{Cube}

@@ -98,7 +98,11 @@ fn lesser(first: Instance, second: Instance) -> Instance
 fn compare_instances(left: &Instance, right: &Instance) -> Ordering
     ensures { result ≡ families.compare_instances left.now right.now }
 {
-    let classes = left.family.classes.as_slice().cmp(right.family.classes.as_slice());
+    let classes = left
+        .family
+        .classes
+        .as_slice()
+        .cmp(right.family.classes.as_slice());
     let args = left.args.as_slice().cmp(right.args.as_slice());
     cmp_cube(&left.family.cube, &right.family.cube).then(classes.then(args))
 }

@@ -1,4 +1,4 @@
-use Rattle.std.proofs.Common.{◌≡◌, ◌≤◌, ◌∙◌, List, All, length, map, subst, ap, sym, arith}
+use Rattle.std.proofs.Common.{◌≡◌, ◌≤◌, ◌∙◌, List, All, length, map, subst, ap, sym}
 use Rattle.std.proofs.lemmas.Result.{IfOk-weaker}
 use Rattle.access_paths.proofs.Leasts.{as_many_arguments, least_is_family, orders_are_arguments}
 use Rattle.access_paths.proofs.Variables.{variables_listed}

@@ -1,8 +1,5 @@
-use Rattle.std.proofs.Common.{◌≡◌, ◌∙◌, List, map, arith, rules}
+use Rattle.std.proofs.Common.{◌≡◌, ◌∙◌, arith, rules}
 use Rattle.access_paths.proofs.Variables.{placed_instance, places_keep_apart, table_length}
-use Rattle.access_paths.specs.Arguments.{below, var}
-use Rattle.access_paths.specs.Families.{place_of}
-use Rattle.access_paths.specs.declared.term.Var.{Var}
 use Rattle.access_paths.proofs.family.instance.Goals as goal
 
 pub substitute-requires-clause-entries : goal.substitute-requires-clause-entries

@@ -1,4 +1,4 @@
-use Rattle.std.proofs.Common.{◌∙◌, ◌≡◌}
+use Rattle.std.proofs.Common.{◌∙◌}
 use Rattle.access_paths.proofs.Leasts.{least_of_more}
 use Rattle.access_paths.proofs.family.least.Goals as goal
 
