@@ -13,7 +13,7 @@ use Rattle.access_paths.proofs.Orders.{instances_total}
 use Rattle.access_paths.proofs.Permuted.{all_orders, each_order}
 use Rattle.access_paths.proofs.Substituted.{all_members}
 use Rattle.access_paths.proofs.Variables.{few_variables, variables_listed}
-use Rattle.access_paths.specs.Arguments.{AreArguments, IsLeastAmong, orders, var, variables}
+use Rattle.access_paths.specs.Arguments.{AreArguments, HasKnownVariables, IsLeastAmong, orders, var, variables}
 use Rattle.access_paths.specs.Families.{HasVariable, IsFamilyOf, IsInstance, compare_instances}
 use Rattle.access_paths.specs.declared.term.Cube.{Cube}
 use Rattle.access_paths.specs.declared.term.Instance.{Instance}
@@ -68,7 +68,7 @@ module _ (c : Cube) (of : List ℕ) where
       let P : List (List Var) → Type 0 = λ ls. IsLeastAmong c of ls i in
       subst P (ap (λ n. take n lists) end ∙ take-length lists) is
 
-  module _ (known : (v : ℕ) → HasVariable c v → v < 8) where
+  module _ (known : HasKnownVariables c) where
     -- each order of the variables is a list of arguments
     pub orders_are_arguments : All (λ args. AreArguments c args × (length args ≤ 8)) (orders (map var (variables c)))
     orders_are_arguments =

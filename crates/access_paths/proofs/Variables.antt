@@ -18,7 +18,7 @@ use Rattle.access_paths.proofs.Orders.{terms_total}
 use Rattle.access_paths.proofs.Permuted.{in_below, of_below}
 use Rattle.access_paths.proofs.Places.{one_place}
 use Rattle.access_paths.proofs.Substituted.{all_members}
-use Rattle.access_paths.specs.Arguments.{AreArguments, below, has, var, variables}
+use Rattle.access_paths.specs.Arguments.{AreArguments, HasKnownVariables, below, has, var, variables}
 use Rattle.access_paths.specs.Families.{HasVariable, IsInstance, place_of}
 use Rattle.access_paths.specs.Renaming.{IsRenamed, KeepsApart, literal, renamed, renamed_term, variable_in}
 use Rattle.access_paths.specs.Terms.{IsCube, IsLiteral, compare_terms, term}
@@ -110,7 +110,7 @@ map_var_distinct (v ∷ vs) apart =
     (map_var_distinct vs (tail_distinct v vs apart))
 
 -- the list of a cube's variables has them all, each once
-pub variables_listed : (c : Cube) → ((v : ℕ) → HasVariable c v → v < 8) → AreArguments c (map var (variables c))
+pub variables_listed : (c : Cube) → HasKnownVariables c → AreArguments c (map var (variables c))
 variables_listed c known = record {
   once = map_var_distinct (variables c) (filter_distinct (λ w. list_any (has w) c.literals) (below 8) (below_distinct 8));
   arguments = λ v. (
@@ -176,7 +176,7 @@ terms_apart c args other are same l there is one =
     let clash : Less ≡ Equal = sym is ∙ tied in
     cc
 
-pub places_keep_apart : (c : Cube) (args table : List Var) → IsCube c → ((v : ℕ) → HasVariable c v → v < 8) → AreArguments c args
+pub places_keep_apart : (c : Cube) (args table : List Var) → IsCube c → HasKnownVariables c → AreArguments c args
     → table ≡ map (λ w. var (place_of args w)) (below 8) → KeepsApart (variable_in table) c
 places_keep_apart c args table is_cube known are is =
     all_members (λ l. renamed_term (variable_in table) l.less ≢ renamed_term (variable_in table) l.more) c.literals
@@ -186,7 +186,7 @@ pub table_length : (args table : List Var) → table ≡ map (λ w. var (place_o
 table_length args table is = ap length is ∙ length-map (below 8) (λ w. var (place_of args w))
 
 -- a cube with its variables at their places is an instance
-pub placed_instance : (c d : Cube) (of : List ℕ) (args table : List Var) (classes : List ℕ) (kept : List Var) → ((v : ℕ) → HasVariable c v → v < 8) → AreArguments c args
+pub placed_instance : (c d : Cube) (of : List ℕ) (args table : List Var) (classes : List ℕ) (kept : List Var) → HasKnownVariables c → AreArguments c args
     → table ≡ map (λ w. var (place_of args w)) (below 8) → IsRenamed (variable_in table) c d → classes ≡ map (λ a. slice_index of a.0) args → kept ≡ args
     → IsInstance c of (record { family = record { classes = classes; cube = d }; args = kept })
 placed_instance c d of args table classes kept known are is renamed_is classes_are same =

@@ -1,10 +1,10 @@
 //! The family of a cube: the least of its renamings.
-ghost use Rattle.std.specs.Prelude.{◌≡◌, ℕ, ◌<◌, ◌≤◌, All, length, map, slice_index, IfOk, if◌then◌else◌};
+ghost use Rattle.std.specs.Prelude.{◌≡◌, ◌≤◌, All, length, map, slice_index, IfOk, if◌then◌else◌};
 ghost use Rattle.std.specs.List.{list_any};
 ghost use Rattle.std.specs.Ordering.{is_lt};
-ghost use Rattle.access_paths.specs.Arguments.{AreArguments, IsLeastAmong, below, var, variables};
+ghost use Rattle.access_paths.specs.Arguments.{AreArguments, HasKnownVariables, IsLeastAmong, below, var, variables};
 ghost use Rattle.access_paths.specs.Arguments as told;
-ghost use Rattle.access_paths.specs.Families.{HasVariable, IsFamilyOf, IsInstance, place_of};
+ghost use Rattle.access_paths.specs.Families.{IsFamilyOf, IsInstance, place_of};
 ghost use Rattle.access_paths.specs.Families as families;
 ghost use Rattle.access_paths.specs.Terms.{IsCube};
 
@@ -25,7 +25,7 @@ const VARIABLES: u8 = 8;
 /// `Memory` where there is none left.
 pub fn family_of(alloc: Global, cube: &Cube, classes: &[u32]) -> Result<Instance, Memory>
     requires cube { IsCube cube.now }
-    requires known { (v : ℕ) → HasVariable cube.now v → v < 8 }
+    requires known { HasKnownVariables cube.now }
     ensures family { IfOk result (IsFamilyOf cube.now classes.now) }
     ensures arguments { IfOk result (λ i. length i.args ≡ length (variables cube.now)) }
 {
@@ -48,6 +48,7 @@ fn variables_of(alloc: Global, cube: &Cube) -> Result<Vec<Var>, Memory>
     Ok(found)
 }
 
+/// Whether a literal of the cube has the variable.
 fn has_variable(cube: &Cube, number: u8) -> bool
     ensures { result ≡ list_any (told.has number) cube.now.literals }
 {
@@ -55,6 +56,7 @@ fn has_variable(cube: &Cube, number: u8) -> bool
     literals.iter().any(|literal| has(literal, number))
 }
 
+/// Whether the literal has the variable.
 fn has(literal: &Literal, number: u8) -> bool
     ensures { result ≡ told.has number literal.now }
 {
@@ -70,7 +72,7 @@ fn least(
     lists: &[List<Var>],
 ) -> Result<Instance, Memory>
     requires cube { IsCube cube.now }
-    requires known { (v : ℕ) → HasVariable cube.now v → v < 8 }
+    requires known { HasKnownVariables cube.now }
     requires first { IsInstance cube.now classes.now first }
     requires lists { All (λ args. AreArguments cube.now args × (length args ≤ 8)) lists.now }
     ensures { IfOk result (IsLeastAmong cube.now classes.now lists.now) }
@@ -110,7 +112,7 @@ fn compare_instances(left: &Instance, right: &Instance) -> Ordering
 /// The cube with x1, x2 and so on in the places of the arguments, with the arguments and their classes.
 fn instance(alloc: Global, cube: &Cube, classes: &[u32], args: &[Var]) -> Result<Instance, Memory>
     requires cube { IsCube cube.now }
-    requires known { (v : ℕ) → HasVariable cube.now v → v < 8 }
+    requires known { HasKnownVariables cube.now }
     requires arguments { AreArguments cube.now args.now }
     requires few { length args.now ≤ 8 }
     ensures instance { IfOk result (IsInstance cube.now classes.now) }
@@ -165,6 +167,7 @@ fn classes_of(alloc: Global, args: &[Var], classes: &[u32]) -> Result<Vec<u32>, 
     Ok(found)
 }
 
+/// The variable's class; 0 where there is no entry.
 fn class_of(classes: &[u32], var: Var) -> u32
     ensures { result ≡ slice_index classes.now var.0 }
 {
