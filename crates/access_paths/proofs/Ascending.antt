@@ -1,11 +1,10 @@
 -- Literals in order: what the order says of members, and how one is added.
-use Rattle.std.proofs.Common.{inl, inr, ◌⊎◌, ◌↔◌, ◌≡◌, ◌≢◌, ℕ, zero, suc, ◌+◌, ◌<◌, ◌≤◌, true, false, List, [], ◌∷◌, ◌++◌, length, take, drop, get_or, Contains, subst, arith, refl, ap, ap₂, sym, ◌∙◌}
+use Rattle.std.proofs.Common.{inl, inr, ◌↔◌, ◌≡◌, ℕ, zero, suc, ◌≤◌, true, false, List, [], ◌∷◌, ◌++◌, length, take, drop, Contains, subst, arith, refl, ap, ap₂, sym, ◌∙◌}
 use Rattle.std.proofs.lemmas.Cmp.{tied_itself}
 use Rattle.std.specs.List.{insert}
 use Rattle.std.specs.Ordering.{is_eq, is_lt, ordering_reverse}
 use Rattle.std.specs.declared.cmp.Ordering.{Ordering}
 use Rattle.std.specs.declared.cmp.Ordering.TheVariants.{Less, Equal, Greater}
-use Rattle.access_paths.proofs.Exact.{literals_exact}
 use Rattle.access_paths.proofs.Members.{head_member, no_member, put_from, put_there, tail_member, which_member}
 use Rattle.access_paths.proofs.Orders.{literals_total}
 use Rattle.access_paths.specs.Adding.{IsAdded, IsPlace}
@@ -29,18 +28,18 @@ less_than_rest : (l : Literal) (ls : List Literal) → Ascend (l ∷ ls) → (m 
 less_than_rest l [] up m is = absurd (no_member m is)
 less_than_rest l (k ∷ ls) up m is =
     elim (which_member k ls m is) [
-      inl same ↦ ap (compare_literals l) (sym same) ∙ up.0
-    | inr after ↦ literals_total.trans l k m up.0 (less_than_rest k ls up.1 m after)
+      | inl same ↦ ap (compare_literals l) (sym same) ∙ up.0
+      | inr after ↦ literals_total.trans l k m up.0 (less_than_rest k ls up.1 m after)
     ]
 
 -- the heads of lists with the same members are one
 same_heads : (l : Literal) (ls : List Literal) (m : Literal) (ms : List Literal) → Ascend (l ∷ ls) → Ascend (m ∷ ms) → Contains (m ∷ ms) l → Contains (l ∷ ls) m → l ≡ m
 same_heads l ls m ms up other_up l_there m_there =
     elim (which_member m ms l l_there) [
-      inl same ↦ sym same
-    | inr l_after ↦ elim (which_member l ls m m_there) [
-        inl same ↦ same
-      | inr m_after ↦ absurd (not_both_less l m (less_than_rest l ls up m m_after) (less_than_rest m ms other_up l l_after))
+      | inl same ↦ sym same
+      | inr l_after ↦ elim (which_member l ls m m_there) [
+        | inl same ↦ same
+        | inr m_after ↦ absurd (not_both_less l m (less_than_rest l ls up m m_after) (less_than_rest m ms other_up l l_after))
       ]
     ]
 
@@ -48,8 +47,8 @@ same_heads l ls m ms up other_up l_there m_there =
 tails_hold : (l : Literal) (ls : List Literal) (m : Literal) (ms : List Literal) → Ascend (l ∷ ls) → l ≡ m → (k : Literal) → Contains ls k → Contains (m ∷ ms) k → Contains ms k
 tails_hold l ls m ms up same k is there =
     elim (which_member m ms k there) [
-      inl first ↦ absurd (not_less_itself l k (same ∙ first) (less_than_rest l ls up k is))
-    | inr after ↦ after
+      | inl first ↦ absurd (not_less_itself l k (same ∙ first) (less_than_rest l ls up k is))
+      | inr after ↦ after
     ]
 
 -- lists in order with the same members are one
@@ -62,8 +61,9 @@ same_ascending (l ∷ ls) (m ∷ ms) up other_up same =
     ap₂ (λ k ks. k ∷ ks) heads
     (same_ascending ls ms (tail_ascends l ls up) (tail_ascends m ms other_up)
     (λ k. (
-    λ is. tails_hold l ls m ms up heads k is ((same k).0 (tail_member l ls k is)),
-    λ is. tails_hold m ms l ls other_up (sym heads) k is ((same k).1 (tail_member m ms k is)))))
+      λ is. tails_hold l ls m ms up heads k is ((same k).0 (tail_member l ls k is)),
+      λ is. tails_hold m ms l ls other_up (sym heads) k is ((same k).1 (tail_member m ms k is)),
+    )))
 
 -- one before the first
 cons_ascends : (l m : Literal) (ls : List Literal) (n : ℕ) → Ascend (m ∷ ls) → n ≤ length ls → compare_literals m l ≡ Less → Ascend (take n ls ++ l ∷ drop n ls) → Ascend (m ∷ (take n ls ++ l ∷ drop n ls))

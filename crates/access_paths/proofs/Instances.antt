@@ -1,9 +1,8 @@
 -- A cube with arguments has one instance, and from it the cube comes back.
-use Rattle.std.proofs.Common.{inl, inr, ◌⊎◌, ◌↔◌, ◌≡◌, ◌≢◌, ℕ, ◌<◌, Bool, true, false, List, length, map, get_or, All, Contains, Some, slice_get, slice_index, if◌then◌else◌, subst, arith, refl, ap, sym, ◌∙◌}
+use Rattle.std.proofs.Common.{inl, inr, ◌⊎◌, ◌↔◌, ◌≡◌, ◌≢◌, ℕ, Bool, true, false, List, map, Contains, Some, slice_get, slice_index, if◌then◌else◌, subst, refl, ap, sym, ◌∙◌}
 use Rattle.std.proofs.lemmas.List.{get_or-map}
 use Rattle.std.proofs.lemmas.List.Elements.{All-contains}
 use Rattle.std.proofs.lemmas.Option.{get_or_from_slice_get, slice_get_within}
-use Rattle.std.proofs.lemmas.Cmp.{tied_itself}
 use Rattle.std.specs.declared.cmp.Ordering.{Ordering}
 use Rattle.std.specs.declared.cmp.Ordering.TheVariants.{Less, Equal, Greater}
 use Rattle.std.specs.Option.{option_map_or}
@@ -11,18 +10,17 @@ use Rattle.std.specs.Ordering.{is_gt, ordering_reverse}
 use Rattle.access_paths.proofs.Ascending.{same_ascending}
 use Rattle.access_paths.proofs.Exact.{instances_exact}
 use Rattle.access_paths.proofs.Members.{in_map, of_map}
-use Rattle.access_paths.proofs.Orders.{instances_total, terms_total}
-use Rattle.access_paths.proofs.Places.{literal_back, one_place, place_found, put_back}
+use Rattle.access_paths.proofs.Orders.{instances_total}
+use Rattle.access_paths.proofs.Places.{literal_back, place_found, put_back}
 use Rattle.access_paths.proofs.Renamed.{keeps_truth}
 use Rattle.access_paths.specs.Arguments.{var}
-use Rattle.access_paths.specs.Families.{HasVariable, IsFamilyOf, IsInstance, compare_instances, place_of}
+use Rattle.access_paths.specs.Families.{HasVariable, IsInstance, compare_instances, place_of}
 use Rattle.access_paths.specs.Laws.{FamilyKeepsTruth, FamilyReturns, OneFamily}
-use Rattle.access_paths.specs.Renaming.{IsRenamed, KeepsApart, renamed, renamed_term, variable_in}
+use Rattle.access_paths.specs.Renaming.{IsRenamed, renamed, renamed_term, variable_in}
 use Rattle.access_paths.specs.Terms.{IsCube, IsLiteral, compare_terms}
 use Rattle.access_paths.specs.declared.term.Cube.{Cube}
 use Rattle.access_paths.specs.declared.term.Instance.{Instance}
 use Rattle.access_paths.specs.declared.term.Literal.{Literal}
-use Rattle.access_paths.specs.declared.term.Term.{Term}
 use Rattle.access_paths.specs.declared.term.Var.{Var}
 
 -- a renaming gives one cube
@@ -52,10 +50,10 @@ one_family c of i j first second =
     (not_less_both (compare_instances i j) (compare_instances j i) (instances_total.antisymm j i) (second.least i first.instance) (first.least j second.instance))
 
 -- the variables of a cube's literal are variables of the cube
-of_less : (c : Cube) (l : Literal) → Contains c.literals l → HasVariable c l.less.var.0
+pub of_less : (c : Cube) (l : Literal) → Contains c.literals l → HasVariable c l.less.var.0
 of_less c l is = (is.0, l, is.1, is.2, inl refl)
 
-of_more : (c : Cube) (l : Literal) → Contains c.literals l → HasVariable c l.more.var.0
+pub of_more : (c : Cube) (l : Literal) → Contains c.literals l → HasVariable c l.more.var.0
 of_more c l is = (is.0, l, is.1, is.2, inr refl)
 
 module _ (c : Cube) (is_cube : IsCube c) (args : List Var) (arguments : (v : Var) → Contains args v ↔ HasVariable c v.0) where
@@ -71,14 +69,15 @@ module _ (c : Cube) (is_cube : IsCube c) (args : List Var) (arguments : (v : Var
   comes_back d is = record {
     cube = is_cube;
     literals = λ l. (
-    λ there. let P : Literal → Type 0 = Contains (map (renamed (variable_in args)) d.literals) in
-        subst P (literal_returns l there)
-        (in_map (renamed (variable_in args)) d.literals (renamed (place_of args) l) ((is.literals (renamed (place_of args) l)).1 (in_map (renamed (place_of args)) c.literals l there))),
-    λ there. let k = of_map (renamed (variable_in args)) d.literals l there in
-        let m = of_map (renamed (place_of args)) c.literals k.0 ((is.literals k.0).0 k.1) in
-        let same : m.0 ≡ l = sym (literal_returns m.0 m.1) ∙ ap (renamed (variable_in args)) m.2 ∙ k.2 in
-        let P : Literal → Type 0 = Contains c.literals in
-        subst P same m.1);
+      λ there. let P : Literal → Type 0 = Contains (map (renamed (variable_in args)) d.literals) in
+          subst P (literal_returns l there)
+          (in_map (renamed (variable_in args)) d.literals (renamed (place_of args) l) ((is.literals (renamed (place_of args) l)).1 (in_map (renamed (place_of args)) c.literals l there))),
+      λ there. let k = of_map (renamed (variable_in args)) d.literals l there in
+          let m = of_map (renamed (place_of args)) c.literals k.0 ((is.literals k.0).0 k.1) in
+          let same : m.0 ≡ l = sym (literal_returns m.0 m.1) ∙ ap (renamed (variable_in args)) m.2 ∙ k.2 in
+          let P : Literal → Type 0 = Contains c.literals in
+          subst P same m.1,
+    );
   }
 
 pub family_returns : FamilyReturns
@@ -101,8 +100,8 @@ variable_from other c d v is has =
     let l = from.0 in
     let P : Literal → Type 0 = λ m. (m.less.var.0 ≡ v) ⊎ (m.more.var.0 ≡ v) in
     elim (renamed_variable other l v (subst P (sym from.2) has.4)) [
-      inl less ↦ (l.less.var.0, of_less c l from.1, less)
-    | inr more ↦ (l.more.var.0, of_more c l from.1, more)
+      | inl less ↦ (l.less.var.0, of_less c l from.1, less)
+      | inr more ↦ (l.more.var.0, of_more c l from.1, more)
     ]
 
 -- an argument's object stands at the argument's place

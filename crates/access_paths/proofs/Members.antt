@@ -72,8 +72,8 @@ put_there x [] n y within (inr is) = absurd (no_member y is)
 put_there x (z ∷ xs) zero y within (inr is) = tail_member x (z ∷ xs) y is
 put_there x (z ∷ xs) (suc n) y within (inr is) =
     elim (which_member z xs y is) [
-      inl same ↦ (0, omega arith, same)
-    | inr after ↦ tail_member z (take n xs ++ x ∷ drop n xs) y (put_there x xs n y (omega arith) (inr after))
+      | inl same ↦ (0, omega arith, same)
+      | inr after ↦ tail_member z (take n xs ++ x ∷ drop n xs) y (put_there x xs n y (omega arith) (inr after))
     ]
 
 pub put_from : {X : Type 0} (x : X) (xs : List X) (n : ℕ) (y : X) → n ≤ length xs → Contains (take n xs ++ x ∷ drop n xs) y → (x ≡ y) ⊎ Contains xs y
@@ -81,8 +81,8 @@ put_from x xs zero y within is = which_member x xs y is
 put_from x [] (suc n) y within is = absurd (omega arith)
 put_from x (z ∷ xs) (suc n) y within is =
     elim (which_member z (take n xs ++ x ∷ drop n xs) y is) [
-      inl same ↦ inr (0, omega arith, same)
-    | inr after ↦ elim (put_from x xs n y (omega arith) after) [ inl same ↦ inl same | inr there ↦ inr (tail_member z xs y there) ]
+      | inl same ↦ inr (0, omega arith, same)
+      | inr after ↦ elim (put_from x xs n y (omega arith) after) [ inl same ↦ inl same | inr there ↦ inr (tail_member z xs y there) ]
     ]
 
 -- and is of different items, where the item is new
@@ -92,8 +92,8 @@ put_distinct x [] (suc n) within apart new = absurd (omega arith)
 put_distinct x (z ∷ xs) (suc n) within apart new =
     cons_distinct z (take n xs ++ x ∷ drop n xs)
     (λ there. elim (put_from x xs n z (omega arith) there) [
-      inl same ↦ new (0, omega arith, sym same)
-    | inr after ↦ head_apart z xs apart after
+      | inl same ↦ new (0, omega arith, sym same)
+      | inr after ↦ head_apart z xs apart after
     ])
     (put_distinct x xs n (omega arith) (tail_distinct z xs apart) (λ there. new (tail_member z xs x there)))
 
@@ -101,14 +101,14 @@ pub in_flat_map : {X Y : Type 0} (f : X → List Y) (xs : List X) (x : X) (y : Y
 in_flat_map f [] x y is there = absurd (no_member x is)
 in_flat_map {X} f (z ∷ xs) x y is there =
     elim (which_member z xs x is) [
-      inl same ↦ let P : X → Type 0 = λ w. Contains (f w) y in Contains-append_left (f z) (flat_map f xs) y (subst P (sym same) there)
-    | inr after ↦ Contains-append_right (f z) (flat_map f xs) y (in_flat_map f xs x y after there)
+      | inl same ↦ let P : X → Type 0 = λ w. Contains (f w) y in Contains-append_left (f z) (flat_map f xs) y (subst P (sym same) there)
+      | inr after ↦ Contains-append_right (f z) (flat_map f xs) y (in_flat_map f xs x y after there)
     ]
 
 pub of_flat_map : {X Y : Type 0} (f : X → List Y) (xs : List X) (y : Y) → Contains (flat_map f xs) y → (x : X) × Contains xs x × Contains (f x) y
 of_flat_map f [] y is = absurd (no_member y is)
 of_flat_map f (x ∷ xs) y is =
     elim (Contains-append_cases (f x) (flat_map f xs) y is) [
-      inl first ↦ (x, head_member x xs, first)
-    | inr rest ↦ let from = of_flat_map f xs y rest in (from.0, tail_member x xs from.0 from.1, from.2)
+      | inl first ↦ (x, head_member x xs, first)
+      | inr rest ↦ let from = of_flat_map f xs y rest in (from.0, tail_member x xs from.0 from.1, from.2)
     ]

@@ -1,16 +1,14 @@
 -- The places of variables among arguments, and what a renamed cube is when its variables are put back.
-use Rattle.std.proofs.Common.{inl, inr, ◌⊎◌, ◌↔◌, ◌≡◌, ◌≢◌, ℕ, zero, suc, ◌+◌, ◌<◌, ◌≤◌, ◌==◌, Bool, true, false, not, List, [], ◌∷◌, length, map, get_or, All, Contains, Option, Some, None, slice_get, cond, if◌then◌else◌, subst, arith, refl, ap, ap₂, sym, ◌∙◌}
+use Rattle.std.proofs.Common.{inl, inr, ◌≡◌, ℕ, suc, ◌+◌, ◌<◌, Bool, true, false, not, List, [], ◌∷◌, length, Contains, Some, slice_get, cond, if◌then◌else◌, arith, ap, ap₂, sym, ◌∙◌}
 use Rattle.std.proofs.lemmas.Bool.Decides.{eqb_tells}
-use Rattle.std.proofs.lemmas.List.Elements.{All-contains}
 use Rattle.std.proofs.lemmas.Option.{slice_get_within}
 use Rattle.std.specs.Option.{option_map_or}
 use Rattle.std.specs.Ordering.{is_gt, ordering_reverse}
-use Rattle.std.specs.declared.cmp.Ordering.{Ordering}
-use Rattle.std.specs.declared.cmp.Ordering.TheVariants.{Less, Equal, Greater}
-use Rattle.access_paths.proofs.Members.{in_map, no_member, of_map, which_member}
+use Rattle.std.specs.declared.cmp.Ordering.TheVariants.{Less, Greater}
+use Rattle.access_paths.proofs.Members.{no_member, which_member}
 use Rattle.access_paths.proofs.Orders.{terms_total}
 use Rattle.access_paths.specs.Arguments.{var}
-use Rattle.access_paths.specs.Families.{HasVariable, place_of}
+use Rattle.access_paths.specs.Families.{place_of}
 use Rattle.access_paths.specs.Renaming.{literal, renamed, renamed_term, variable_in}
 use Rattle.access_paths.specs.Terms.{IsLiteral, compare_terms, term}
 use Rattle.access_paths.specs.declared.term.Literal.{Literal}
@@ -28,14 +26,14 @@ pub place_found : (args : List Var) (v : ℕ) → Contains args (var v) → slic
 place_found [] v there = absurd (no_member (var v) there)
 place_found (a ∷ args) v there =
     elim (eqb_tells a.0 v) [
-      inl here ↦ ap (λ b. slice_get (a ∷ args) (cond (not b) (1 + place_of args v) 0)) here.0 ∙ ap Some (same_var a v here.1)
-    | inr apart ↦
-      ap (λ b. slice_get (a ∷ args) (cond (not b) (1 + place_of args v) 0)) apart.0
-      ∙ get_one_more a args (place_of args v)
-      ∙ place_found args v (elim (which_member a args (var v) there) [
-        inl same ↦ absurd (apart.1 (ap (λ (x : Var). x.0) same))
-      | inr after ↦ after
-      ])
+      | inl here ↦ ap (λ b. slice_get (a ∷ args) (cond (not b) (1 + place_of args v) 0)) here.0 ∙ ap Some (same_var a v here.1)
+      | inr apart ↦
+          ap (λ b. slice_get (a ∷ args) (cond (not b) (1 + place_of args v) 0)) apart.0
+          ∙ get_one_more a args (place_of args v)
+          ∙ place_found args v (elim (which_member a args (var v) there) [
+            | inl same ↦ absurd (apart.1 (ap (λ (x : Var). x.0) same))
+            | inr after ↦ after
+          ])
     ]
 
 pub place_within : (args : List Var) (v : ℕ) → Contains args (var v) → place_of args v < length args

@@ -4,6 +4,7 @@ use Rattle.std.specs.Cmp.{first_so, nat_eq_equiv, second_so}
 use Rattle.std.specs.List.{list_all}
 use Rattle.std.specs.Ordering.{is_gt}
 use Rattle.easl_heap.specs.Heap.{Object, get}
+use Rattle.access_paths.proofs.Members.{in_map, of_map}
 use Rattle.access_paths.specs.Families.{HasVariable}
 use Rattle.access_paths.specs.Laws.{RenamingKeepsTruth}
 use Rattle.access_paths.specs.Renaming.{IsRenamed, renamed, renamed_term}
@@ -22,16 +23,6 @@ pass_all : {X : Type 0} (test : X → Bool) (xs : List X) → ((x : X) → Conta
 pass_all test [] each = refl
 pass_all test (y ∷ xs) each =
     ap₂ (λ a b. a && b) (each y (0, omega arith, refl)) (pass_all test xs (λ x in_it. each x (suc in_it.0, omega (arith, in_it.1), in_it.2)))
-
-in_map : {X Y : Type 0} (f : X → Y) (xs : List X) (x : X) (k : ℕ) → k < length xs → slice_index_or xs k x ≡ x → Contains (map f xs) (f x)
-in_map f [] x k within at = absurd (omega arith)
-in_map f (y ∷ xs) x zero within at = (0, omega arith, ap f at)
-in_map f (y ∷ xs) x (suc k) within at = let rest = in_map f xs x k (omega arith) at in (suc rest.0, omega (arith, rest.1), rest.2)
-
-of_map : {X Y : Type 0} (f : X → Y) (xs : List X) (y : Y) (k : ℕ) → k < length (map f xs) → slice_index_or (map f xs) k y ≡ y → (x : X) × Contains xs x × (f x ≡ y)
-of_map f [] y k within at = absurd (omega arith)
-of_map f (x ∷ xs) y zero within at = (x, (0, omega arith, refl), at)
-of_map f (x ∷ xs) y (suc k) within at = let rest = of_map f xs y k (omega arith) at in (rest.0, (suc rest.1.0, omega (arith, rest.1.1), rest.1.2), rest.2)
 
 both_ways : (a b : Bool) → (a ≡ true → b ≡ true) → (b ≡ true → a ≡ true) → a ≡ b
 both_ways true b there back = sym (there refl)
@@ -68,7 +59,7 @@ module _ (heap : List Object) (objects others : List ℕ) (other : ℕ → ℕ) 
     forth all =
         pass_all (literal_holds (by_objects heap others)) c.literals
         (λ l there.
-        let k = (is.literals (renamed other l)).1 (in_map (renamed other) c.literals l there.0 there.1 there.2) in
+        let k = (is.literals (renamed other l)).1 (in_map (renamed other) c.literals l there) in
         sym (one_same l there) ∙ all_pass (literal_holds (by_objects heap objects)) d.literals all (renamed other l) k.0 k.1 k.2)
 
     back : cube_holds (by_objects heap others) c.literals ≡ true → cube_holds (by_objects heap objects) d.literals ≡ true
@@ -76,7 +67,7 @@ module _ (heap : List Object) (objects others : List ℕ) (other : ℕ → ℕ) 
         pass_all (literal_holds (by_objects heap objects)) d.literals
         (λ k there.
         let m = (is.literals k).0 there in
-        let l = of_map (renamed other) c.literals k m.0 m.1 m.2 in
+        let l = of_map (renamed other) c.literals k m in
         ap (literal_holds (by_objects heap objects)) (sym l.2) ∙ one_same l.0 l.1 ∙ all_pass (literal_holds (by_objects heap others)) c.literals all l.0 l.1.0 l.1.1 l.1.2)
 
 pub keeps_truth : RenamingKeepsTruth

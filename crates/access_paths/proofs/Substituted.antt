@@ -1,5 +1,5 @@
 -- Literals renamed one after another, and the cube of them.
-use Rattle.std.proofs.Common.{inl, inr, ◌⊎◌, ◌↔◌, ◌≡◌, ◌≢◌, ℕ, ◌+◌, ◌<◌, ◌≤◌, Bool, List, [], ◌∷◌, ◌++◌, length, map, take, get_or, All, Any, Contains, if◌then◌else◌, subst, arith, refl, ap, sym, ◌∙◌}
+use Rattle.std.proofs.Common.{inl, inr, ◌⊎◌, ◌≡◌, ◌≢◌, ℕ, ◌+◌, ◌<◌, ◌≤◌, Bool, List, [], ◌∷◌, ◌++◌, length, map, take, get_or, All, Any, Contains, if◌then◌else◌, subst, arith, refl, ap, sym, ◌∙◌}
 use Rattle.std.proofs.Math.Seq.{take-length}
 use Rattle.std.proofs.lemmas.List.{map-append, take_more}
 use Rattle.std.proofs.lemmas.List.Elements.{All-contains, Contains-append_left, Contains-get_or, Contains-push, Contains-push_cases}
@@ -50,16 +50,17 @@ more_renamed other ls k l made new within at so_far added =
     record {
       order = added.order;
       literals = λ m. (
-      λ is. let P : List Literal → Type 0 = λ ms. Contains ms m in
-          subst P (sym now) (elim ((added.literals m).0 is) [
-            inl same ↦ let Q : Literal → Type 0 = Contains (done ++ renamed other l ∷ []) in subst Q same (Contains-push done (renamed other l))
-          | inr before ↦ Contains-append_left done (renamed other l ∷ []) m ((so_far.literals m).0 before)
-          ]),
-      λ is. let P : List Literal → Type 0 = λ ms. Contains ms m in
-          (added.literals m).1 (elim (Contains-push_cases done (renamed other l) m (subst P now is)) [
-            inl before ↦ inr ((so_far.literals m).1 before)
-          | inr same ↦ inl same
-          ]));
+        λ is. let P : List Literal → Type 0 = λ ms. Contains ms m in
+            subst P (sym now) (elim ((added.literals m).0 is) [
+              | inl same ↦ let Q : Literal → Type 0 = Contains (done ++ renamed other l ∷ []) in subst Q same (Contains-push done (renamed other l))
+              | inr before ↦ Contains-append_left done (renamed other l ∷ []) m ((so_far.literals m).0 before)
+            ]),
+        λ is. let P : List Literal → Type 0 = λ ms. Contains ms m in
+            (added.literals m).1 (elim (Contains-push_cases done (renamed other l) m (subst P now is)) [
+              | inl before ↦ inr ((so_far.literals m).1 before)
+              | inr same ↦ inl same
+            ]),
+      );
     }
 
 pub one_more_renamed : (other : ℕ → ℕ) (ls : List Literal) (k : ℕ) (l m : Literal) (made new : List Literal) → k < length ls → l ≡ get_or ls k l

@@ -1,5 +1,5 @@
 -- The arguments that a family of a cube can have: its variables in each order.
-use Rattle.std.specs.Prelude.{◌≢◌, ◌↔◌, ◌==◌, ◌||◌, ℕ, zero, suc, ◌+◌, Bool, List, [], ◌∷◌, ◌++◌, All, AllPairs, Contains, filter, insert, length, map}
+use Rattle.std.specs.Prelude.{◌≢◌, ◌↔◌, ◌==◌, ◌||◌, ℕ, zero, suc, ◌+◌, ◌<◌, Bool, List, [], ◌∷◌, ◌++◌, AllPairs, Contains, filter, insert, length, map}
 use Rattle.std.specs.List.{flat_map, list_any}
 use Rattle.access_paths.specs.Families.{HasVariable, IsInstance, compare_instances}
 use Rattle.access_paths.specs.declared.term.Cube.{Cube}
@@ -10,6 +10,10 @@ use Rattle.std.specs.declared.cmp.Ordering.TheVariants.{Less}
 
 abbrev pub var : ℕ → Var
 var v = record { 0 = v }
+
+-- each variable is one of the 8 that a question has
+abbrev pub HasKnownVariables : Cube → Type 0
+HasKnownVariables c = (v : ℕ) → HasVariable c v → v < 8
 
 -- the numbers below one, in order
 abbrev pub below : ℕ → List ℕ

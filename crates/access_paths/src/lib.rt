@@ -2,6 +2,7 @@
 #![tactic(auto)]
 
 mod cube;
+mod family;
 mod laws;
 mod permutations;
 mod rename;
@@ -11,6 +12,7 @@ mod truth;
 mod twins;
 
 pub use cube::cmp_cube;
+pub use family::family_of;
 pub use laws::{
     cubes_are_ordered, family_is_one, family_keeps_truth, family_returns_cube, renaming_keeps_truth,
 };

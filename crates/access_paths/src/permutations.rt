@@ -14,7 +14,8 @@ pub fn orders(alloc: Global, variables: &[Var]) -> Result<Vec<List<Var>>, Memory
 {
     let Some((first, rest)) = variables.split_first() else {
         let mut made = Vec::new(alloc);
-        made.push(List::from_vec(Vec::new(alloc))).map_err(|_| Memory)?;
+        made.push(List::from_vec(Vec::new(alloc)))
+            .map_err(|_| Memory)?;
         return Ok(made);
     };
     let shorter = orders(alloc, rest)?;

@@ -59,25 +59,28 @@ impl Hash for Fields {
 impl Fields {
     ghost use Rattle.std.specs.Prelude.{◌≡◌, [], ◌∷◌, ◌++◌, IfOk};
 
+    /// No positions. It takes no memory.
     pub fn none(alloc: Global) -> Fields
         ensures { result ≡ [] }
     {
         Fields(SmallVec::new(alloc))
     }
 
+    /// The positions, the first field first.
     pub fn as_slice(&self) -> &[u32]
         ensures { result.now ≡ self.now }
     {
         self.0.as_slice()
     }
 
+    /// The same positions again. `AllocError` where there is no memory left.
     pub fn twin(&self, alloc: Global) -> Result<Fields, AllocError>
         ensures { IfOk result (λ f. f ≡ self.now) }
     {
         Ok(Fields(SmallVec::from_slice(alloc, self.0.as_slice())?))
     }
 
-    /// These positions with one more behind them.
+    /// These positions with one more behind them. `AllocError` where there is no memory left.
     pub fn with(&self, alloc: Global, position: u32) -> Result<Fields, AllocError>
         ensures { IfOk result (λ f. f ≡ self.now ++ position ∷ []) }
     {
@@ -90,7 +93,9 @@ impl Fields {
 /// What the fields lead to from the variable.
 #[derive(Debug, Drop, PartialEq, Eq, Hash)]
 pub struct Term {
+    /// Where it begins.
     pub var: Var,
+    /// The positions of the fields, each in its object's class, the first one first.
     pub fields: Fields,
 }
 
@@ -99,7 +104,7 @@ impl Term {
     ghost use Rattle.access_paths.specs.Terms.{field, compare_terms};
     ghost use Rattle.access_paths.specs.Terms as told;
 
-    /// The variable of this number.
+    /// The variable of this number. It takes no memory.
     pub fn variable(alloc: Global, number: u8) -> Term
         ensures { result ≡ told.term number [] }
     {
@@ -109,6 +114,7 @@ impl Term {
         }
     }
 
+    /// The same term again. `AllocError` where there is no memory left.
     pub fn twin(&self, alloc: Global) -> Result<Term, AllocError>
         ensures { IfOk result (λ t. t ≡ self.now) }
     {
@@ -118,7 +124,7 @@ impl Term {
         })
     }
 
-    /// What one more field leads to.
+    /// What one more field leads to. `AllocError` where there is no memory left.
     pub fn field(&self, alloc: Global, position: u32) -> Result<Term, AllocError>
         ensures { IfOk result (λ t. t ≡ field self.now position) }
     {
@@ -141,11 +147,14 @@ impl Term {
     }
 }
 
-/// Whether two terms lead to one object, the lesser first. `same` tells `==` from `!=`.
+/// Two different terms that lead to one object, or to two.
 #[derive(Debug, Drop, PartialEq, Eq, Hash)]
 pub struct Literal {
+    /// Whether it is by `==`, and not by `!=`.
     pub same: bool,
+    /// The lesser term.
     pub less: Term,
+    /// The greater term.
     pub more: Term,
 }
 
@@ -167,19 +176,24 @@ impl Literal {
 /// Literals that are true together.
 #[derive(Debug, Drop, PartialEq, Eq, Hash)]
 pub struct Cube {
+    /// The literals in order, each once.
     pub literals: List<Literal>,
 }
 
 /// A cube over x1 to x3, with the classes of these variables.
 #[derive(Debug, Drop, PartialEq, Eq, Hash)]
 pub struct Family {
+    /// The class of each of its variables, by number.
     pub classes: List<u32>,
+    /// What it says of them.
     pub cube: Cube,
 }
 
 /// A family with the variables that stand for its own.
 #[derive(Debug, Drop, PartialEq, Eq, Hash)]
 pub struct Instance {
+    /// The family.
     pub family: Family,
+    /// For each of its variables, by number, the one that stands for it.
     pub args: List<Var>,
 }

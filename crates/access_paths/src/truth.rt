@@ -34,5 +34,7 @@ pub fn cube_holds(heap: &Heap, cube: &Cube, objects: &[u32]) -> bool
     ensures { result ≡ told.cube_holds (by_objects heap.now objects.now) cube.now.literals }
 {
     let literals = cube.literals.as_slice();
-    literals.iter().all(|literal| is_true(heap, objects, literal))
+    literals
+        .iter()
+        .all(|literal| is_true(heap, objects, literal))
 }

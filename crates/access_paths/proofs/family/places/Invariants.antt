@@ -1,0 +1,7 @@
+use Rattle.std.proofs.Common.{◌≡◌, map}
+use Rattle.access_paths.specs.Arguments.{below, var}
+use Rattle.access_paths.specs.Families.{place_of}
+use Rattle.access_paths.proofs.family.places.Given as goal
+
+abbrev pub invariant-each : goal.invariant-each
+invariant-each l = l.places.items ≡ map (λ v. var (place_of l.args v)) (below l.number)
