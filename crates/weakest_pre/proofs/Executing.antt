@@ -8,14 +8,17 @@ use Rattle.easl_model.specs.Statements.{Statement, Statements, If, statement_of,
 use Rattle.easl_model.specs.declared.form.Act.{Act}
 use Rattle.easl_model.specs.declared.form.Method.{Method}
 use Rattle.easl_heap.proofs.Called.{body_found}
+use Rattle.access_paths.specs.declared.term.Family.{Family}
+use Rattle.access_paths.specs.declared.term.Literal.{Literal}
 use Rattle.question_model.specs.Bodies.{Making, Outcome, called, made, outcome, returned, run, step}
+use Rattle.question_model.specs.Questions.{after_call, arguments_of, cube_after, update}
 use Rattle.question_model.specs.Stage.{Stage, Done, ◌>>=◌}
 use Rattle.question_model.specs.States.{State, holds, state}
 use Rattle.question_model.specs.declared.answer.Answer.{Answer}
 use Rattle.question_model.specs.declared.value.Value.{Value}
 use Rattle.question_model.specs.declared.value.Value.TheVariants.{Fresh}
 use Rattle.question_model.specs.declared.value.Write.{Write}
-use Rattle.weakest_pre.specs.Running.{GivesTo, Leaves, Stops, closed, most}
+use Rattle.weakest_pre.specs.Running.{Gives, GivesTo, Leaves, Stops, closed, most}
 use Rattle.weakest_pre.specs.declared.stop.Stop.{Stop}
 use Rattle.weakest_pre.specs.declared.stop.Stop.TheVariants as stop
 
@@ -100,3 +103,21 @@ method_leaves form answers m args depth deep is acts are w none n zeroed s ran r
     ∙ goes_on (run form most answers (made form most answers full) (statements_of m.body) (state args [] 0)) (λ t. returned form most answers (made form most answers full) m.value t) s one
     ∙ ap (λ d. returned form most answers (made form most answers d) m.value s) (sym deep) in
     subst (λ (x : Stage Outcome). Leaves x r writes count) (sym whole) left
+
+-- the body is executed, and then the cube is read
+pub updated : (form : Form) (answers : List Answer) (m : Method) (family : Family) (results : ℕ)
+    → (args : List Value) → args ≡ arguments_of m
+    → (writes : List Write) (count : ℕ) (given : Value) → called form most answers m args ≡ Done (outcome writes count given)
+    → (written : List Write) → written ≡ writes → (variables : List Value) → variables ≡ after_call family results given
+    → (literals : List Literal) → literals ≡ family.cube.literals
+    → (r : Result Bool Stop) → Gives (cube_after form most answers written variables literals) r
+    → Gives (update form most answers m family results) r
+updated form answers m family results args are writes count given done written same variables known literals all r gives =
+    let ran : called form most answers m (arguments_of m) ≡ Done (outcome writes count given) =
+    ap (λ vs. called form most answers m vs) (sym are) ∙ done in
+    let told : update form most answers m family results ≡ cube_after form most answers written variables literals =
+    goes_on (called form most answers m (arguments_of m))
+    (λ x. cube_after form most answers x.writes (after_call family results x.result) family.cube.literals) (outcome writes count given) ran
+    ∙ ap (λ ws. cube_after form most answers ws (after_call family results given) family.cube.literals) (sym same)
+    ∙ ap₂ (λ vs ls. cube_after form most answers written vs ls) (sym known) (sym all) in
+    subst (λ s. Gives s r) (sym told) gives

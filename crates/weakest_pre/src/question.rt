@@ -155,11 +155,9 @@ impl Branch<'_> {
         let args = arguments_of(self.alloc, method)?;
         let given = self.called(method, args, &mut effects)?;
         let variables = after_call(self.alloc, family, results, &given)?;
-        self.cube_after(
-            effects.writes.as_slice(),
-            variables.as_slice(),
-            family.cube.literals.as_slice(),
-        )
+        let writes = effects.writes.as_slice();
+        let literals = family.cube.literals.as_slice();
+        self.cube_after(writes, variables.as_slice(), literals)
     }
 
     /// Whether the clause is false before the call.
