@@ -1,5 +1,5 @@
 -- Constructions and calls, as the code makes them.
-use Rattle.std.proofs.Common.{◌≡◌, ℕ, zero, suc, ◌+◌, ◌-◌, ◌<◌, ◌≤◌, Bool, true, false, if◌then◌else◌, List, [], ◌∷◌, Option, length, get_or, Some, slice_get, arith, refl, ap, ap₂, sym, subst, ◌∙◌}
+use Rattle.std.proofs.Common.{◌≡◌, ℕ, zero, suc, ◌+◌, ◌-◌, ◌<◌, ◌≤◌, Bool, true, false, if◌then◌else◌, List, [], ◌∷◌, length, get_or, Some, slice_get, arith, refl, ap, ap₂, sym, subst, ◌∙◌}
 use Rattle.std.specs.Prelude.{Result}
 use Rattle.easl_model.specs.Conditions.{Condition}
 use Rattle.easl_model.specs.Form.{Form, constructor_of}
@@ -62,37 +62,63 @@ if_leaves form answers make x c first second xs is s b held chosen r t given =
 
 module _ (form : Form) (answers : List Answer) (class count : ℕ) (args : List Value) (writes : List Write) where
   -- a construction, one deeper
-  made_next : (depth : ℕ) → 0 < depth → (m : Method) → slice_get form.methods (constructor_of form class) ≡ Some m → made form most answers depth class args writes count ≡ (run form most answers (made form most answers (depth - 1)) (statements_of m.body) (state (Fresh class count ∷ args) writes (count + 1)) >>= (λ s. Done (outcome s.writes s.count (Fresh class count))))
+  made_next : (depth : ℕ) → 0 < depth → (m : Method) → slice_get form.methods (constructor_of form class) ≡ Some m
+      → made form most answers depth class args writes count
+      ≡ (run form most answers (made form most answers (depth - 1)) (statements_of m.body) (state (Fresh class count ∷ args) writes (count + 1))
+      >>= (λ s. Done (outcome s.writes s.count (Fresh class count))))
   made_next zero some m there = absurd (omega arith)
   made_next (suc depth) some m there =
       let e : depth ≡ suc depth - 1 = omega arith in
       let n : suc count ≡ count + 1 = omega arith in
-      ap (λ xs. run form most answers (made form most answers depth) xs (state (Fresh class count ∷ args) writes (suc count)) >>= (λ s. Done (outcome s.writes s.count (Fresh class count)))) (body_found form (constructor_of form class) m there)
-      ∙ ap (λ d. run form most answers (made form most answers d) (statements_of m.body) (state (Fresh class count ∷ args) writes (suc count)) >>= (λ s. Done (outcome s.writes s.count (Fresh class count)))) e
-      ∙ ap (λ k. run form most answers (made form most answers (suc depth - 1)) (statements_of m.body) (state (Fresh class count ∷ args) writes k) >>= (λ s. Done (outcome s.writes s.count (Fresh class count)))) n
+      ap (λ xs. run form most answers (made form most answers depth) xs (state (Fresh class count ∷ args) writes (suc count))
+      >>= (λ s. Done (outcome s.writes s.count (Fresh class count)))) (body_found form (constructor_of form class) m there)
+      ∙ ap (λ d. run form most answers (made form most answers d) (statements_of m.body) (state (Fresh class count ∷ args) writes (suc count))
+      >>= (λ s. Done (outcome s.writes s.count (Fresh class count)))) e
+      ∙ ap (λ k. run form most answers (made form most answers (suc depth - 1)) (statements_of m.body) (state (Fresh class count ∷ args) writes k)
+      >>= (λ s. Done (outcome s.writes s.count (Fresh class count)))) n
 
-  pub construct_stops : (depth : ℕ) → 0 < depth → (m : Method) → slice_get form.methods (constructor_of form class) ≡ Some m → (acts : List Act) → acts ≡ m.body → (slots : List Value) → slots ≡ Fresh class count ∷ args → (e : Stop) → Stops (run form most answers (made form most answers (depth - 1)) (statements_of acts) (state slots writes (count + 1))) e → Stops (made form most answers depth class args writes count) e
+  pub construct_stops : (depth : ℕ) → 0 < depth → (m : Method) → slice_get form.methods (constructor_of form class) ≡ Some m → (acts : List Act)
+      → acts ≡ m.body → (slots : List Value) → slots ≡ Fresh class count ∷ args → (e : Stop)
+      → Stops (run form most answers (made form most answers (depth - 1)) (statements_of acts) (state slots writes (count + 1))) e
+      → Stops (made form most answers depth class args writes count) e
   construct_stops depth some m there acts are slots begin e is =
-      let same : Stops (run form most answers (made form most answers (depth - 1)) (statements_of m.body) (state (Fresh class count ∷ args) writes (count + 1))) e = subst (λ vs. Stops (run form most answers (made form most answers (depth - 1)) (statements_of m.body) (state vs writes (count + 1))) e) begin (subst (λ xs. Stops (run form most answers (made form most answers (depth - 1)) (statements_of xs) (state slots writes (count + 1))) e) are is) in
+      let same : Stops (run form most answers (made form most answers (depth - 1)) (statements_of m.body)
+      (state (Fresh class count ∷ args) writes (count + 1))) e = subst
+      (λ vs. Stops (run form most answers (made form most answers (depth - 1)) (statements_of m.body) (state vs writes (count + 1))) e) begin
+      (subst (λ xs. Stops (run form most answers (made form most answers (depth - 1)) (statements_of xs) (state slots writes (count + 1))) e) are is) in
       subst (λ (s : Stage Outcome). Stops s e) (sym (made_next depth some m there))
-      (stops_on (run form most answers (made form most answers (depth - 1)) (statements_of m.body) (state (Fresh class count ∷ args) writes (count + 1))) (λ s. Done (outcome s.writes s.count (Fresh class count))) e same)
+      (stops_on (run form most answers (made form most answers (depth - 1)) (statements_of m.body) (state (Fresh class count ∷ args) writes (count + 1)))
+      (λ s. Done (outcome s.writes s.count (Fresh class count))) e same)
 
-  pub construct_ends : (depth : ℕ) → 0 < depth → (m : Method) → slice_get form.methods (constructor_of form class) ≡ Some m → (acts : List Act) → acts ≡ m.body → (slots : List Value) → slots ≡ Fresh class count ∷ args → (s : State) → run form most answers (made form most answers (depth - 1)) (statements_of acts) (state slots writes (count + 1)) ≡ Done s → made form most answers depth class args writes count ≡ Done (outcome s.writes s.count (Fresh class count))
+  pub construct_ends : (depth : ℕ) → 0 < depth → (m : Method) → slice_get form.methods (constructor_of form class) ≡ Some m → (acts : List Act)
+      → acts ≡ m.body → (slots : List Value) → slots ≡ Fresh class count ∷ args → (s : State)
+      → run form most answers (made form most answers (depth - 1)) (statements_of acts) (state slots writes (count + 1)) ≡ Done s
+      → made form most answers depth class args writes count ≡ Done (outcome s.writes s.count (Fresh class count))
   construct_ends depth some m there acts are slots begin s is =
-      let same : run form most answers (made form most answers (depth - 1)) (statements_of m.body) (state (Fresh class count ∷ args) writes (count + 1)) ≡ Done s = sym (ap₂ (λ xs vs. run form most answers (made form most answers (depth - 1)) (statements_of xs) (state vs writes (count + 1))) are begin) ∙ is in
+      let same : run form most answers (made form most answers (depth - 1)) (statements_of m.body) (state (Fresh class count ∷ args) writes (count + 1))
+      ≡ Done s = sym (ap₂ (λ xs vs. run form most answers (made form most answers (depth - 1)) (statements_of xs)
+      (state vs writes (count + 1))) are begin) ∙ is in
       made_next depth some m there
-      ∙ goes_on (run form most answers (made form most answers (depth - 1)) (statements_of m.body) (state (Fresh class count ∷ args) writes (count + 1))) (λ s. Done (outcome s.writes s.count (Fresh class count))) s same
+      ∙ goes_on (run form most answers (made form most answers (depth - 1)) (statements_of m.body) (state (Fresh class count ∷ args) writes (count + 1)))
+      (λ s. Done (outcome s.writes s.count (Fresh class count))) s same
 
   -- no constructor is executed where none may stand
   pub construct_flat : (depth : ℕ) → depth ≡ 0 → made form most answers depth class args writes count ≡ Done (outcome writes (count + 1) (Fresh class count))
   construct_flat zero none = let n : suc count ≡ count + 1 = omega arith in ap (λ k. Done (outcome writes k (Fresh class count))) n
   construct_flat (suc depth) none = absurd (omega arith)
 
-method_called : (form : Form) (answers : List Answer) (m : Method) (args : List Value) → m.constructor ≡ false → called form most answers m args ≡ (run form most answers (made form most answers (length form.classes)) (statements_of m.body) (state args [] 0) >>= (λ s. returned form most answers (made form most answers (length form.classes)) m.value s))
+method_called : (form : Form) (answers : List Answer) (m : Method) (args : List Value) → m.constructor ≡ false
+    → called form most answers m args
+    ≡ (run form most answers (made form most answers (length form.classes)) (statements_of m.body) (state args [] 0)
+    >>= (λ s. returned form most answers (made form most answers (length form.classes)) m.value s))
 method_called form answers m args is = rw is refl
 
 -- a method is executed, and then its `return`
-pub method_leaves : (form : Form) (answers : List Answer) (m : Method) (args : List Value) (depth : ℕ) → depth ≡ length form.classes → m.constructor ≡ false → (acts : List Act) → acts ≡ m.body → (w : List Write) → w ≡ [] → (n : ℕ) → n ≡ 0 → (s : State) → run form most answers (made form most answers depth) (statements_of acts) (state args w n) ≡ Done s → (r : Result Value Stop) (writes : List Write) (count : ℕ) → Leaves (returned form most answers (made form most answers depth) m.value s) r writes count → Leaves (called form most answers m args) r writes count
+pub method_leaves : (form : Form) (answers : List Answer) (m : Method) (args : List Value) (depth : ℕ) → depth ≡ length form.classes → m.constructor ≡ false
+    → (acts : List Act) → acts ≡ m.body → (w : List Write) → w ≡ [] → (n : ℕ) → n ≡ 0 → (s : State)
+    → run form most answers (made form most answers depth) (statements_of acts) (state args w n) ≡ Done s
+    → (r : Result Value Stop) (writes : List Write) (count : ℕ)
+    → Leaves (returned form most answers (made form most answers depth) m.value s) r writes count → Leaves (called form most answers m args) r writes count
 method_leaves form answers m args depth deep is acts are w none n zeroed s ran r writes count left =
     let full = length form.classes in
     let one : run form most answers (made form most answers full) (statements_of m.body) (state args [] 0) ≡ Done s =
@@ -100,7 +126,8 @@ method_leaves form answers m args depth deep is acts are w none n zeroed s ran r
     ∙ ap₂ (λ v k. run form most answers (made form most answers depth) (statements_of acts) (state args v k)) (sym none) (sym zeroed) ∙ ran in
     let whole : called form most answers m args ≡ returned form most answers (made form most answers depth) m.value s =
     method_called form answers m args is
-    ∙ goes_on (run form most answers (made form most answers full) (statements_of m.body) (state args [] 0)) (λ t. returned form most answers (made form most answers full) m.value t) s one
+    ∙ goes_on (run form most answers (made form most answers full) (statements_of m.body) (state args [] 0))
+    (λ t. returned form most answers (made form most answers full) m.value t) s one
     ∙ ap (λ d. returned form most answers (made form most answers d) m.value s) (sym deep) in
     subst (λ (x : Stage Outcome). Leaves x r writes count) (sym whole) left
 

@@ -1,6 +1,6 @@
 //! Trees of questions, grown from what each list of answers comes to.
 ghost use Rattle.std.specs.Prelude.{◌≡◌, [], ◌∷◌, ◌++◌, OnOk};
-ghost use Rattle.question_model.specs.Split.{said};
+ghost use Rattle.question_model.specs.{said};
 ghost use Rattle.weakest_pre.specs.Growing.{Grows};
 
 use crate::stop::Stop;

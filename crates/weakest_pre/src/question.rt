@@ -100,12 +100,7 @@ fn after_call(
 
 impl Branch<'_> {
     /// What a term leads to after the writes, from the values of the variables.
-    fn term_after(
-        &self,
-        writes: &[Write],
-        variables: &[Value],
-        term: &Term,
-    ) -> Result<Value, Stop>
+    fn term_after(&self, writes: &[Write], variables: &[Value], term: &Term) -> Result<Value, Stop>
         ensures { Gives (told.term_after self.now.spec.now most self.now.answers.now writes.now variables.now term.now) result }
     {
         match variables.get(term.var.0 as usize) {

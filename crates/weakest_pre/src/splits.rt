@@ -6,8 +6,8 @@ ghost use Rattle.easl_model.specs.declared.form.Test.{Test};
 ghost use Rattle.access_paths.specs.Fitting.{Fits};
 ghost use Rattle.access_paths.specs.Trees.{tree_of};
 ghost use Rattle.access_paths.specs.Variables.{AreResults};
-ghost use Rattle.question_model.specs.Law.{TellsAfter, TellsFalse};
-ghost use Rattle.weakest_pre.specs.Growing.{HasClause, IsClauseAt, IsClauseSplit, IsSplit};
+ghost use Rattle.question_model.specs.{TellsAfter, TellsFalse};
+ghost use Rattle.weakest_pre.specs.{HasClause, IsClauseAt, IsClauseSplit, IsSplit};
 
 use crate::branch::Branch;
 use crate::grow::{Question, grow};
@@ -30,7 +30,7 @@ impl Question for Update<'_> {
     ghost use Rattle.std.specs.Prelude.{length};
     ghost use Rattle.easl_model.specs.Form.{MethodInRange};
     ghost use Rattle.easl_model.specs.Limits.{MethodKeepsLimits};
-    ghost use Rattle.question_model.specs.Questions.{update};
+    ghost use Rattle.question_model.specs.{update};
     ghost use Rattle.weakest_pre.specs.Running.{most};
 
     ghost ready = { λ q. MethodInRange (length q.spec.now.classes) q.method.now × MethodKeepsLimits q.spec.now q.method.now };
@@ -59,7 +59,7 @@ impl Question for Falsity<'_> {
     ghost use Rattle.std.specs.Prelude.{length};
     ghost use Rattle.easl_model.specs.Conditions.{condition_of};
     ghost use Rattle.easl_model.specs.Form.{MethodInRange};
-    ghost use Rattle.question_model.specs.Questions.{fails};
+    ghost use Rattle.question_model.specs.{fails};
     ghost use Rattle.weakest_pre.specs.Running.{most};
 
     ghost ready = { λ q. MethodInRange (length q.spec.now.classes) q.method.now };
