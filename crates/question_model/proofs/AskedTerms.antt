@@ -1,7 +1,6 @@
 -- The questions of a specification ask terms of their variables.
 use Rattle.std.proofs.Common.{inl, inr, ◌≡◌, ℕ, suc, ◌+◌, ◌≤◌, ◌==◌, ◌/◌, ◌%◌, Bool, true, false, not, if◌then◌else◌, List, [], ◌∷◌, Option, Some, None, slice_get, arith, refl, ap, sym, subst, ◌∙◌}
 use Rattle.std.specs.Prelude.{IfSome}
-use Rattle.easl_model.specs.Conditions.{Condition}
 use Rattle.easl_model.specs.Form.{Form}
 use Rattle.easl_model.specs.declared.form.Method.{Method}
 use Rattle.access_paths.specs.Variables.{before_call, no_family, variables_of}
@@ -12,7 +11,6 @@ use Rattle.question_model.specs.Questions.{after_call, arguments_of, cube_after,
 use Rattle.question_model.specs.Questions as told
 use Rattle.question_model.specs.Stage.{Done}
 use Rattle.question_model.specs.States.{holds, state}
-use Rattle.question_model.specs.declared.answer.Answer.{Answer}
 use Rattle.question_model.specs.declared.value.Value.{Value}
 use Rattle.question_model.proofs.AskedBodies.{FineOutcome, asks_terms, called_comes, cube_comes}
 use Rattle.question_model.proofs.AskedConditions.{holds_comes}
@@ -80,13 +78,15 @@ update_asks_terms form most m family results tree is =
     comes_on form most all (FineOutcome form most all answers) (SomeAnswer form most all)
     (called form most answers m (arguments_of m)) (λ x. cube_after form most answers x.writes (after_call family results x.result) family.cube.literals)
     (called_comes form most all answers m (arguments_of m) (arguments_fine form most m _ _ _))
-    (λ x so. cube_comes form most all answers x.writes (after_call family results x.result) so.0 (after_fine form most m family results x.result so.1) family.cube.literals))
+    (λ x so. cube_comes form most all answers x.writes (after_call family results x.result) so.0
+    (after_fine form most m family results x.result so.1) family.cube.literals))
     tree [] is
 
 pub clause_asks_terms : ClauseAsksTerms
 clause_asks_terms form most m c tree is =
     asks_terms form most (variables_of m no_family) (λ answers. fails form most answers m c)
-    (λ answers. comes_on form most (variables_of m no_family) (SomeAnswer form most (variables_of m no_family)) (SomeAnswer form most (variables_of m no_family))
+    (λ answers. comes_on form most (variables_of m no_family) (SomeAnswer form most (variables_of m no_family))
+    (SomeAnswer form most (variables_of m no_family))
     (holds form most answers (state (arguments_of m) [] 0) c) (λ b. Done (not b))
     (holds_comes form most (variables_of m no_family) answers (state (arguments_of m) [] 0) (arguments_fine form most m None None None, tt) c) (λ b any. tt))
     tree [] is

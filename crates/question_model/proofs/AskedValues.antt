@@ -30,7 +30,8 @@ module _ (form : Form) (most : Option ℕ) (variables : List (Option ℕ)) where
   Comes P (Needs t u) = IsTerm form most variables t × IsTerm form most variables u × (compare_terms t u ≡ Less)
   Comes P Long = Unit {0}
 
-  pub comes_on : {A B : Type 0} (P : A → Type 0) (Q : B → Type 0) (s : Stage A) (f : A → Stage B) → Comes P s → ((x : A) → P x → Comes Q (f x)) → Comes Q (s >>= f)
+  pub comes_on : {A B : Type 0} (P : A → Type 0) (Q : B → Type 0) (s : Stage A) (f : A → Stage B) → Comes P s → ((x : A) → P x → Comes Q (f x))
+      → Comes Q (s >>= f)
   comes_on P Q (Done x) f so on = on x so
   comes_on P Q (Needs t u) f so on = so
   comes_on P Q Long f so on = tt
@@ -62,12 +63,14 @@ module _ (form : Form) (most : Option ℕ) (variables : List (Option ℕ)) where
   is_term_of t class is short = record { class = class; is = is; short = short }
 
   module _ (answers : List Answer) where
-    answered_comes : (others : List Answer) (t u : Term) → IsTerm form most variables t → IsTerm form most variables u → compare_terms t u ≡ Less → Comes SomeAnswer (answered others t u)
+    answered_comes : (others : List Answer) (t u : Term) → IsTerm form most variables t → IsTerm form most variables u → compare_terms t u ≡ Less
+        → Comes SomeAnswer (answered others t u)
     answered_comes [] t u is also less = (is, also, less)
     answered_comes (a ∷ rest) t u is also less =
         comes_if SomeAnswer (is_term a.less t && is_term a.more u) (Done a.same) (answered rest t u) tt (answered_comes rest t u is also less)
 
-    by_order_comes : (o : Ordering) (t u : Term) → compare_terms t u ≡ o → IsTerm form most variables t → IsTerm form most variables u → Comes SomeAnswer (by_order answers o t u)
+    by_order_comes : (o : Ordering) (t u : Term) → compare_terms t u ≡ o → IsTerm form most variables t → IsTerm form most variables u
+        → Comes SomeAnswer (by_order answers o t u)
     by_order_comes Less t u e is also = answered_comes answers t u is also e
     by_order_comes Equal t u e is also = tt
     by_order_comes Greater t u e is also = answered_comes answers u t also is (greater_less t u e)
@@ -84,7 +87,8 @@ module _ (form : Form) (most : Option ℕ) (variables : List (Option ℕ)) where
     are_same_comes Nothing (Fresh d n) is also = tt
     are_same_comes Nothing Nothing is also = tt
 
-    extended_comes : (t : Term) (class p : ℕ) → IsTermOf form variables t class → (o : Option ℕ) → slice_get (fields_of form class) p ≡ o → Comes IsFine (extended most t p o)
+    extended_comes : (t : Term) (class p : ℕ) → IsTermOf form variables t class → (o : Option ℕ) → slice_get (fields_of form class) p ≡ o
+        → Comes IsFine (extended most t p o)
     extended_comes t class p is None at = tt
     extended_comes t class p is (Some of) at = short (may_grow most (length t.fields)) refl
       where
@@ -100,7 +104,8 @@ module _ (form : Form) (most : Option ℕ) (variables : List (Option ℕ)) where
     unwritten_comes (Fresh class n) p is = tt
     unwritten_comes Nothing p is = tt
 
-    through_comes : (class : ℕ) (v : Value) (p : ℕ) → IsFine v → (ws : List values.Write) → FineWrites ws → Comes IsFine (through form most answers class v p ws)
+    through_comes : (class : ℕ) (v : Value) (p : ℕ) → IsFine v → (ws : List values.Write) → FineWrites ws
+        → Comes IsFine (through form most answers class v p ws)
     through_comes class v p is [] fine = unwritten_comes v p is
     through_comes class v p is (w ∷ ws) fine =
         let older = through_comes class v p is ws fine.2 in
@@ -116,7 +121,8 @@ module _ (form : Form) (most : Option ℕ) (variables : List (Option ℕ)) where
     pub led_comes : (ws : List values.Write) → FineWrites ws → (ps : List ℕ) (v : Value) → IsFine v → Comes IsFine (led form most answers ws v ps)
     led_comes ws fine [] v is = is
     led_comes ws fine (p ∷ ps) v is =
-        comes_on IsFine IsFine (field_of form most answers ws v p) (λ x. led form most answers ws x ps) (field_comes ws fine v p is) (λ x so. led_comes ws fine ps x so)
+        comes_on IsFine IsFine (field_of form most answers ws v p) (λ x. led form most answers ws x ps) (field_comes ws fine v p is)
+        (λ x so. led_comes ws fine ps x so)
 
     pub slot_fine : (vs : List Value) (k : ℕ) → AllFine vs → IsFine (slice_index_or vs k Nothing)
     slot_fine [] k fine = tt
@@ -131,5 +137,7 @@ module _ (form : Form) (most : Option ℕ) (variables : List (Option ℕ)) where
 
     pub compared_comes : (s : State) → FineState s → (left right : Reach) → Comes SomeAnswer (compared form most answers s left right)
     compared_comes s fine left right =
-        comes_on IsFine SomeAnswer (reached form most answers s left) (λ v. reached form most answers s right >>= (λ w. are_same answers v w)) (reached_comes s fine left)
-        (λ v is. comes_on IsFine SomeAnswer (reached form most answers s right) (λ w. are_same answers v w) (reached_comes s fine right) (λ w also. are_same_comes v w is also))
+        comes_on IsFine SomeAnswer (reached form most answers s left) (λ v. reached form most answers s right >>= (λ w. are_same answers v w))
+        (reached_comes s fine left)
+        (λ v is. comes_on IsFine SomeAnswer (reached form most answers s right) (λ w. are_same answers v w) (reached_comes s fine right)
+        (λ w also. are_same_comes v w is also))

@@ -24,11 +24,14 @@ module _ (heap : List Object) (objects : List ℕ) where
   Agree [] = Unit {0}
   Agree (a ∷ rest) = (a.same ≡ by_objects heap objects a.less a.more) × Agree rest
 
-  pub agree_more : (answers : List Answer) (t u : Term) (same : Bool) → Agree answers → same ≡ by_objects heap objects t u → Agree (answers ++ said t u same ∷ [])
+  pub agree_more : (answers : List Answer) (t u : Term) (same : Bool) → Agree answers → same ≡ by_objects heap objects t u
+      → Agree (answers ++ said t u same ∷ [])
   agree_more [] t u same agree is = (is, tt)
   agree_more (a ∷ rest) t u same agree is = (agree.0, agree_more rest t u same agree.1 is)
 
-  found : (a : Answer) (rest : Stage Bool) (t u : Term) (b found : Bool) → (is_term a.less t && is_term a.more u) ≡ found → a.same ≡ by_objects heap objects a.less a.more → (rest ≡ Done b → b ≡ by_objects heap objects t u) → (if found then Done a.same else rest) ≡ Done b → b ≡ by_objects heap objects t u
+  found : (a : Answer) (rest : Stage Bool) (t u : Term) (b found : Bool) → (is_term a.less t && is_term a.more u) ≡ found
+      → a.same ≡ by_objects heap objects a.less a.more → (rest ≡ Done b → b ≡ by_objects heap objects t u) → (if found then Done a.same else rest) ≡ Done b
+      → b ≡ by_objects heap objects t u
   found a rest t u b true e agrees others is =
       let terms = are_terms a.less t a.more u e in
       let same : a.same ≡ b = cc in
@@ -40,7 +43,8 @@ module _ (heap : List Object) (objects : List ℕ) where
   answered_so (a ∷ rest) agree t u b is =
       found a (answered rest t u) t u b (is_term a.less t && is_term a.more u) refl agree.0 (answered_so rest agree.1 t u b) is
 
-  by_order_so : (answers : List Answer) → Agree answers → (o : Ordering) (t u : Term) (b : Bool) → compare_terms t u ≡ o → by_order answers o t u ≡ Done b → b ≡ by_objects heap objects t u
+  by_order_so : (answers : List Answer) → Agree answers → (o : Ordering) (t u : Term) (b : Bool) → compare_terms t u ≡ o → by_order answers o t u ≡ Done b
+      → b ≡ by_objects heap objects t u
   by_order_so answers agree Less t u b e is = answered_so answers agree t u b is
   by_order_so answers agree Equal t u b e is =
       let yes : true ≡ b = cc in

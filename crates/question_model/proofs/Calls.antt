@@ -41,7 +41,8 @@ starts form variables before objects full are = record { full = full; given = gi
 
 module _ (form : Form) (variables : List (Option ℕ)) (before : List Object) (objects : List ℕ) where
   -- the variables numbered from n on have these classes and objects
-  pub parameters_are : (n : ℕ) (ps : List (Option ℕ)) (ns : List ℕ) → AllZip (IsGiven before) ps ns → ((k : ℕ) → slice_index objects (n + k) ≡ slice_index ns k) → ns ≡ map (denote before objects) (told_of.variables n ps)
+  pub parameters_are : (n : ℕ) (ps : List (Option ℕ)) (ns : List ℕ) → AllZip (IsGiven before) ps ns
+      → ((k : ℕ) → slice_index objects (n + k) ≡ slice_index ns k) → ns ≡ map (denote before objects) (told_of.variables n ps)
   parameters_are n [] [] zip at = refl
   parameters_are n [] (x ∷ ns) zip at = absurd zip
   parameters_are n (p ∷ ps) [] zip at = absurd zip
@@ -54,7 +55,9 @@ module _ (form : Form) (variables : List (Option ℕ)) (before : List Object) (o
   variable_good : (n class : ℕ) → slice_get variables n ≡ Some (Some class) → IsTermOf form variables (term n []) class
   variable_good n class at = record { start = class; variable = at; leads = refl }
 
-  pub parameters_good : (n : ℕ) (ps : List (Option ℕ)) → ((k class : ℕ) → slice_get ps k ≡ Some (Some class) → slice_get variables (n + k) ≡ Some (Some class)) → AllGood form variables before objects before (told_of.variables n ps)
+  pub parameters_good : (n : ℕ) (ps : List (Option ℕ))
+      → ((k class : ℕ) → slice_get ps k ≡ Some (Some class) → slice_get variables (n + k) ≡ Some (Some class))
+      → AllGood form variables before objects before (told_of.variables n ps)
   parameters_good n [] at = tt
   parameters_good n (None ∷ ps) at =
       (tt, parameters_good (suc n) ps (λ k class is. let e : suc n + k ≡ n + suc k = omega arith in ap (slice_get variables) e ∙ at (suc k) class is))
@@ -68,7 +71,8 @@ decided true = inl refl
 decided false = inr refl
 
 -- before the call nothing is written
-pub start_matches : (form : Form) (variables : List (Option ℕ)) (before : List Object) (objects : List ℕ) → Start form variables before objects → Matches form variables before objects [] 0 before
+pub start_matches : (form : Form) (variables : List (Option ℕ)) (before : List Object) (objects : List ℕ) → Start form variables before objects
+    → Matches form variables before objects [] 0 before
 start_matches form variables before objects start = record {
   made = omega arith;
   kept = λ c k is. is;
@@ -140,14 +144,20 @@ begins form m a b c before (x ∷ y ∷ []) are = absurd are.1.1
 begins form m a b c before (x ∷ y ∷ z ∷ []) are = absurd are.1.1.1
 begins form m a b c before (x ∷ y ∷ z ∷ this ∷ ps) are = begins_at form m a b c before x y z this ps are.1.1.1.1
 
-module _ (form : Form) (variables : List (Option ℕ)) (before : List Object) (objects : List ℕ) (start : Start form variables before objects) (most : Option ℕ) (answers : List Answer) (agree : Agree before objects answers) where
-  constructor_so : (m : Method) (args : List Value) → AllGood form variables before objects before args → m.constructor ≡ true → (x : Outcome) → made form most answers (length form.classes) m.class args [] 0 ≡ Done x → Leaves form variables before objects x before (told.called form m (map (denote before objects) args) before)
+module _ (form : Form) (variables : List (Option ℕ)) (before : List Object) (objects : List ℕ) (start : Start form variables before objects)
+    (most : Option ℕ) (answers : List Answer) (agree : Agree before objects answers) where
+  constructor_so : (m : Method) (args : List Value) → AllGood form variables before objects before args → m.constructor ≡ true → (x : Outcome)
+      → made form most answers (length form.classes) m.class args [] 0 ≡ Done x
+      → Leaves form variables before objects x before (told.called form m (map (denote before objects) args) before)
   constructor_so m args good is x done =
       subst (Leaves form variables before objects x before) (sym (constructor_called form m (map (denote before objects) args) before is))
       (made_so form variables before objects start most answers agree (length form.classes) m.class args [] 0 before 0 x
       (start_matches form variables before objects start) good done)
 
-  method_so : (m : Method) (args : List Value) → AllGood form variables before objects before args → m.constructor ≡ false → (x : Outcome) → (run form most answers (made form most answers (length form.classes)) (statements_of m.body) (state args [] 0) >>= (λ s. returned form most answers (made form most answers (length form.classes)) m.value s)) ≡ Done x → Leaves form variables before objects x before (told.called form m (map (denote before objects) args) before)
+  method_so : (m : Method) (args : List Value) → AllGood form variables before objects before args → m.constructor ≡ false → (x : Outcome)
+      → (run form most answers (made form most answers (length form.classes)) (statements_of m.body) (state args [] 0)
+      >>= (λ s. returned form most answers (made form most answers (length form.classes)) m.value s)) ≡ Done x
+      → Leaves form variables before objects x before (told.called form m (map (denote before objects) args) before)
   method_so m args good is x done =
       let make = made form most answers (length form.classes) in
       let real : told.Making = told.made form (length form.classes) in
@@ -165,7 +175,8 @@ module _ (form : Form) (variables : List (Option ℕ)) (before : List Object) (o
       subst (Leaves form variables before objects x before) (sym (method_called form m (map (denote before objects) args) before is))
       (record { matches = l.matches; kept = λ c k was. l.kept c k (ran.1 c k was); good = l.good; result = l.result })
 
-  pub called_so : (m : Method) (args : List Value) → AllGood form variables before objects before args → (x : Outcome) → called form most answers m args ≡ Done x → Leaves form variables before objects x before (told.called form m (map (denote before objects) args) before)
+  pub called_so : (m : Method) (args : List Value) → AllGood form variables before objects before args → (x : Outcome)
+      → called form most answers m args ≡ Done x → Leaves form variables before objects x before (told.called form m (map (denote before objects) args) before)
   called_so m args good x done =
       elim (decided m.constructor) [
         | inl is ↦ constructor_so m args good is x (rw is at done)

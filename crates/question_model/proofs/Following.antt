@@ -17,17 +17,20 @@ use Rattle.question_model.proofs.Asking.{Agree, bound}
 use Rattle.question_model.proofs.Meaning.{AllGood, IsGood, Matches, Start, denote}
 use Rattle.question_model.proofs.Reading.{are_same_so, led_so}
 
-pub slot_is : (before : List Object) (objects : List ℕ) (vs : List Value) (k : ℕ) → slice_index (map (denote before objects) vs) k ≡ denote before objects (slice_index_or vs k Nothing)
+pub slot_is : (before : List Object) (objects : List ℕ) (vs : List Value) (k : ℕ)
+    → slice_index (map (denote before objects) vs) k ≡ denote before objects (slice_index_or vs k Nothing)
 slot_is before objects [] k = refl
 slot_is before objects (v ∷ vs) zero = refl
 slot_is before objects (v ∷ vs) (suc k) = slot_is before objects vs k
 
-pub set_is : (before : List Object) (objects : List ℕ) (vs : List Value) (k : ℕ) (x : Value) → map (denote before objects) (slice_set vs k x) ≡ slice_set (map (denote before objects) vs) k (denote before objects x)
+pub set_is : (before : List Object) (objects : List ℕ) (vs : List Value) (k : ℕ) (x : Value)
+    → map (denote before objects) (slice_set vs k x) ≡ slice_set (map (denote before objects) vs) k (denote before objects x)
 set_is before objects [] k x = refl
 set_is before objects (v ∷ vs) zero x = refl
 set_is before objects (v ∷ vs) (suc k) x = ap (λ rest. denote before objects v ∷ rest) (set_is before objects vs k x)
 
-pub last_is : (before : List Object) (objects : List ℕ) (vs : List Value) (x : Value) → map (denote before objects) (vs ++ x ∷ []) ≡ map (denote before objects) vs ++ denote before objects x ∷ []
+pub last_is : (before : List Object) (objects : List ℕ) (vs : List Value) (x : Value)
+    → map (denote before objects) (vs ++ x ∷ []) ≡ map (denote before objects) vs ++ denote before objects x ∷ []
 last_is before objects [] x = refl
 last_is before objects (v ∷ vs) x = ap (λ rest. denote before objects v ∷ rest) (last_is before objects vs x)
 
@@ -38,17 +41,20 @@ take_is before objects (suc n) [] = refl
 take_is before objects (suc n) (v ∷ vs) = ap (λ rest. denote before objects v ∷ rest) (take_is before objects n vs)
 
 module _ (form : Form) (variables : List (Option ℕ)) (before : List Object) (objects : List ℕ) where
-  pub good_slot : (heap : List Object) (vs : List Value) (k : ℕ) → AllGood form variables before objects heap vs → IsGood form variables before objects heap (slice_index_or vs k Nothing)
+  pub good_slot : (heap : List Object) (vs : List Value) (k : ℕ) → AllGood form variables before objects heap vs
+      → IsGood form variables before objects heap (slice_index_or vs k Nothing)
   good_slot heap [] k good = tt
   good_slot heap (v ∷ vs) zero good = good.0
   good_slot heap (v ∷ vs) (suc k) good = good_slot heap vs k good.1
 
-  pub good_set : (heap : List Object) (vs : List Value) (k : ℕ) (x : Value) → AllGood form variables before objects heap vs → IsGood form variables before objects heap x → AllGood form variables before objects heap (slice_set vs k x)
+  pub good_set : (heap : List Object) (vs : List Value) (k : ℕ) (x : Value) → AllGood form variables before objects heap vs
+      → IsGood form variables before objects heap x → AllGood form variables before objects heap (slice_set vs k x)
   good_set heap [] k x good is = tt
   good_set heap (v ∷ vs) zero x good is = (is, good.1)
   good_set heap (v ∷ vs) (suc k) x good is = (good.0, good_set heap vs k x good.1 is)
 
-  pub good_last : (heap : List Object) (vs : List Value) (x : Value) → AllGood form variables before objects heap vs → IsGood form variables before objects heap x → AllGood form variables before objects heap (vs ++ x ∷ [])
+  pub good_last : (heap : List Object) (vs : List Value) (x : Value) → AllGood form variables before objects heap vs
+      → IsGood form variables before objects heap x → AllGood form variables before objects heap (vs ++ x ∷ [])
   good_last heap [] x good is = (is, tt)
   good_last heap (v ∷ vs) x good is = (good.0, good_last heap vs x good.1 is)
 
@@ -73,18 +79,22 @@ module _ (form : Form) (variables : List (Option ℕ)) (before : List Object) (o
 
 module _ (form : Form) (variables : List (Option ℕ)) (before : List Object) (objects : List ℕ) (start : Start form variables before objects)
     (most : Option ℕ) (answers : List Answer) (agree : Agree before objects answers) where
-  pub reached_so : (s : State) (heap : List Object) (slots : List ℕ) → Follows form variables before objects s heap slots → (r : path.Reach) (x : Value) → reached form most answers s r ≡ Done x → IsGood form variables before objects heap x × (denote before objects x ≡ heap_of.reached heap slots r)
+  pub reached_so : (s : State) (heap : List Object) (slots : List ℕ) → Follows form variables before objects s heap slots → (r : path.Reach) (x : Value)
+      → reached form most answers s r ≡ Done x → IsGood form variables before objects heap x × (denote before objects x ≡ heap_of.reached heap slots r)
   reached_so s heap slots f r x done =
       let begins = good_slot form variables before objects heap s.slots r.slot f.good in
-      let l = led_so form variables before objects start most answers agree s.writes s.count heap f.matches r.fields (slice_index_or s.slots r.slot Nothing) x begins done in
-      let first : denote before objects (slice_index_or s.slots r.slot Nothing) ≡ slice_index slots r.slot = sym (slot_is before objects s.slots r.slot) ∙ ap (λ ns. slice_index ns r.slot) (sym f.slots_are) in
+      let l = led_so form variables before objects start most answers agree s.writes s.count heap f.matches r.fields
+      (slice_index_or s.slots r.slot Nothing) x begins done in
+      let first : denote before objects (slice_index_or s.slots r.slot Nothing) ≡ slice_index slots r.slot = sym (slot_is before objects s.slots r.slot)
+      ∙ ap (λ ns. slice_index ns r.slot) (sym f.slots_are) in
       (l.0, l.1 ∙ ap (λ n. fold (get heap) n r.fields) first)
 
-  pub compared_so : (s : State) (heap : List Object) (slots : List ℕ) → Follows form variables before objects s heap slots → (left right : path.Reach) (b : Bool) → compared form most answers s left right ≡ Done b → b ≡ (heap_of.reached heap slots left == heap_of.reached heap slots right)
+  pub compared_so : (s : State) (heap : List Object) (slots : List ℕ) → Follows form variables before objects s heap slots
+      → (left right : path.Reach) (b : Bool) → compared form most answers s left right ≡ Done b
+      → b ≡ (heap_of.reached heap slots left == heap_of.reached heap slots right)
   compared_so s heap slots f left right b done =
       let first = bound (reached form most answers s left) (λ v. reached form most answers s right >>= (λ w. are_same answers v w)) b done in
       let second = bound (reached form most answers s right) (λ w. are_same answers first.0 w) b first.2 in
       let v = reached_so s heap slots f left first.0 first.1 in
       let w = reached_so s heap slots f right second.0 second.1 in
       are_same_so form variables before objects start most answers agree heap first.0 second.0 b v.0 w.0 second.2 ∙ ap₂ (λ m n. m == n) v.1 w.1
-

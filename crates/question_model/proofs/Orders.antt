@@ -49,7 +49,8 @@ both_turn o p Greater b e f = ap (λ x. ordering_then x p) e
 
 terms_turn : (t u : Term) → compare_terms t u ≡ ordering_reverse (compare_terms u t)
 terms_turn t u =
-    both_turn (nat_cmp (length t.fields) (length u.fields)) (ordering_then (nat_cmp t.var.0 u.var.0) (slice_cmp nat_cmp t.fields u.fields)) (nat_cmp (length u.fields) (length t.fields)) (ordering_then (nat_cmp u.var.0 t.var.0) (slice_cmp nat_cmp u.fields t.fields))
+    both_turn (nat_cmp (length t.fields) (length u.fields)) (ordering_then (nat_cmp t.var.0 u.var.0) (slice_cmp nat_cmp t.fields u.fields))
+    (nat_cmp (length u.fields) (length t.fields)) (ordering_then (nat_cmp u.var.0 t.var.0) (slice_cmp nat_cmp u.fields t.fields))
     (numbers_turn (length t.fields) (length u.fields))
     (both_turn (nat_cmp t.var.0 u.var.0) (slice_cmp nat_cmp t.fields u.fields) (nat_cmp u.var.0 t.var.0) (slice_cmp nat_cmp u.fields t.fields)
     (numbers_turn t.var.0 u.var.0) (nat_list_cmp_total.antisymm t.fields u.fields))

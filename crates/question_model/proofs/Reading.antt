@@ -24,7 +24,8 @@ fold_last : {A B : Type 0} (f : B → A → B) (b : B) (xs : List A) (x : A) →
 fold_last f b [] x = refl
 fold_last f b (y ∷ xs) x = fold_last f (f b y) xs x
 
-pub lead_on : (form : Form) (class : ℕ) (ps : List ℕ) (p middle end : ℕ) → FieldsLead form class ps middle → slice_get (fields_of form middle) p ≡ Some end → FieldsLead form class (ps ++ p ∷ []) end
+pub lead_on : (form : Form) (class : ℕ) (ps : List ℕ) (p middle end : ℕ) → FieldsLead form class ps middle → slice_get (fields_of form middle) p ≡ Some end
+    → FieldsLead form class (ps ++ p ∷ []) end
 lead_on form class [] p middle end leads at = (end, ap (λ c. slice_get (fields_of form c) p) leads ∙ at, refl)
 lead_on form class (q ∷ ps) p middle end leads at = (leads.0, leads.1, lead_on form leads.0 ps p middle end leads.2 at)
 
@@ -57,7 +58,8 @@ module _ (form : Form) (variables : List (Option ℕ)) (before : List Object) (o
     term_some t class is e = omega (arith, some_object before class (object_of before objects t) (term_object t class is), e)
 
     -- values are compared as their objects are
-    pub are_same_so : (now : List Object) (v w : Value) (b : Bool) → IsGood form variables before objects now v → IsGood form variables before objects now w → are_same answers v w ≡ Done b → b ≡ (denote before objects v == denote before objects w)
+    pub are_same_so : (now : List Object) (v w : Value) (b : Bool) → IsGood form variables before objects now v → IsGood form variables before objects now w
+        → are_same answers v w ≡ Done b → b ≡ (denote before objects v == denote before objects w)
     are_same_so now (Before c t) (Before d u) b good other is = ask_so before objects answers agree t u b is
     are_same_so now (Before c t) (Fresh d n) b good other is =
         let no : false ≡ b = cc in
@@ -88,7 +90,8 @@ module _ (form : Form) (variables : List (Option ℕ)) (before : List Object) (o
     abbrev Holds : List Object → List Write → ℕ → ℕ → Value → Type 0
     Holds now ws n p x = IsGood form variables before objects now x × (denote before objects x ≡ after before objects ws n p)
 
-    extended_so : (now : List Object) (t : Term) (class p : ℕ) → IsTermOf form variables t class → (o : Option ℕ) → slice_get (fields_of form class) p ≡ o → (x : Value) → extended most t p o ≡ Done x → Holds now [] (object_of before objects t) p x
+    extended_so : (now : List Object) (t : Term) (class p : ℕ) → IsTermOf form variables t class → (o : Option ℕ) → slice_get (fields_of form class) p ≡ o
+        → (x : Value) → extended most t p o ≡ Done x → Holds now [] (object_of before objects t) p x
     extended_so now t class p is None at x e =
         let none : Nothing ≡ x = cc in
         subst (Holds now [] (object_of before objects t) p) none
@@ -104,7 +107,8 @@ module _ (form : Form) (variables : List (Option ℕ)) (before : List Object) (o
             )
         short false e = absurd (cc)
 
-    unwritten_so : (now : List Object) (v : Value) (p : ℕ) (x : Value) → IsGood form variables before objects now v → unwritten form most v p ≡ Done x → Holds now [] (denote before objects v) p x
+    unwritten_so : (now : List Object) (v : Value) (p : ℕ) (x : Value) → IsGood form variables before objects now v → unwritten form most v p ≡ Done x
+        → Holds now [] (denote before objects v) p x
     unwritten_so now (Before class t) p x good e = extended_so now t class p good (slice_get (fields_of form class) p) refl x e
     unwritten_so now (Fresh class n) p x good e =
         let none : Nothing ≡ x = cc in
@@ -114,14 +118,18 @@ module _ (form : Form) (variables : List (Option ℕ)) (before : List Object) (o
         subst (Holds now [] 0 p) none (tt, refl)
 
     -- a write that is passed over changes nothing here
-    passed : (now : List Object) (w : Write) (ws : List Write) (n p : ℕ) (x : Value) → (denote before objects w.owner == n && w.position == p) ≡ false → Holds now ws n p x → Holds now (w ∷ ws) n p x
+    passed : (now : List Object) (w : Write) (ws : List Write) (n p : ℕ) (x : Value) → (denote before objects w.owner == n && w.position == p) ≡ false
+        → Holds now ws n p x → Holds now (w ∷ ws) n p x
     passed now w ws n p x e holds = (holds.0, rw e holds.1)
 
-    taken : (now : List Object) (w : Write) (ws : List Write) (n p : ℕ) → (denote before objects w.owner == n && w.position == p) ≡ true → IsGood form variables before objects now w.value → Holds now (w ∷ ws) n p w.value
+    taken : (now : List Object) (w : Write) (ws : List Write) (n p : ℕ) → (denote before objects w.owner == n && w.position == p) ≡ true
+        → IsGood form variables before objects now w.value → Holds now (w ∷ ws) n p w.value
     taken now w ws n p e good = (good, rw e refl)
 
     -- a write to a field of another class is to another object
-    apart : (now : List Object) (class : ℕ) (v : Value) (w : Write) (p : ℕ) → IsObjectOf now class (denote before objects v) → IsGoodWrite form variables before objects now w → is_write_of class p w ≡ false → (b : Bool) → (denote before objects w.owner == denote before objects v && w.position == p) ≡ b → b ≡ false
+    apart : (now : List Object) (class : ℕ) (v : Value) (w : Write) (p : ℕ) → IsObjectOf now class (denote before objects v)
+        → IsGoodWrite form variables before objects now w → is_write_of class p w ≡ false → (b : Bool)
+        → (denote before objects w.owner == denote before objects v && w.position == p) ≡ b → b ≡ false
     apart now class v w p is good other false e = refl
     apart now class v w p is good other true e =
         let s = both_same (denote before objects w.owner) (denote before objects v) w.position p e in
@@ -129,7 +137,10 @@ module _ (form : Form) (variables : List (Option ℕ)) (before : List Object) (o
         absurd (true≢false (sym (same_both w.class class w.position p same_class s.1) ∙ other))
 
     -- whether the write is of this field of this object
-    found_so : (now : List Object) (class : ℕ) (v : Value) (w : Write) (p : ℕ) → IsGood form variables before objects now v → IsObjectOf now class (denote before objects v) → IsGoodWrite form variables before objects now w → (b : Bool) → is_write_of class p w ≡ b → (s : Bool) → (if b then are_same answers w.owner v else Done false) ≡ Done s → s ≡ (denote before objects w.owner == denote before objects v && w.position == p)
+    found_so : (now : List Object) (class : ℕ) (v : Value) (w : Write) (p : ℕ) → IsGood form variables before objects now v
+        → IsObjectOf now class (denote before objects v) → IsGoodWrite form variables before objects now w → (b : Bool) → is_write_of class p w ≡ b
+        → (s : Bool) → (if b then are_same answers w.owner v else Done false) ≡ Done s
+        → s ≡ (denote before objects w.owner == denote before objects v && w.position == p)
     found_so now class v w p good is write true e s done =
         let at : true ≡ (w.position == p) = sym (eq-eqb w.position p (both_same w.class class w.position p e).1) in
         are_same_so now w.owner v s write.owner good done ∙ and_true (denote before objects w.owner == denote before objects v) (w.position == p) at
@@ -137,13 +148,18 @@ module _ (form : Form) (variables : List (Option ℕ)) (before : List Object) (o
         let no : false ≡ s = cc in
         sym no ∙ sym (apart now class v w p is write e (denote before objects w.owner == denote before objects v && w.position == p) refl)
 
-    looked : (now : List Object) (class : ℕ) (v : Value) (w : Write) (ws : List Write) (p : ℕ) (x : Value) → IsGood form variables before objects now w.value → (s : Bool) → s ≡ (denote before objects w.owner == denote before objects v && w.position == p) → (through form most answers class v p ws ≡ Done x → Holds now ws (denote before objects v) p x) → (if s then Done w.value else through form most answers class v p ws) ≡ Done x → Holds now (w ∷ ws) (denote before objects v) p x
+    looked : (now : List Object) (class : ℕ) (v : Value) (w : Write) (ws : List Write) (p : ℕ) (x : Value)
+        → IsGood form variables before objects now w.value → (s : Bool) → s ≡ (denote before objects w.owner == denote before objects v && w.position == p)
+        → (through form most answers class v p ws ≡ Done x → Holds now ws (denote before objects v) p x)
+        → (if s then Done w.value else through form most answers class v p ws) ≡ Done x → Holds now (w ∷ ws) (denote before objects v) p x
     looked now class v w ws p x good true so older is =
         let one : w.value ≡ x = cc in
         subst (Holds now (w ∷ ws) (denote before objects v) p) one (taken now w ws (denote before objects v) p (sym so) good)
     looked now class v w ws p x good false so older is = passed now w ws (denote before objects v) p x (sym so) (older is)
 
-    through_so : (now : List Object) (class : ℕ) (v : Value) (p : ℕ) → IsGood form variables before objects now v → IsObjectOf now class (denote before objects v) → (ws : List Write) → AllGoodWrites form variables before objects now ws → (x : Value) → through form most answers class v p ws ≡ Done x → Holds now ws (denote before objects v) p x
+    through_so : (now : List Object) (class : ℕ) (v : Value) (p : ℕ) → IsGood form variables before objects now v
+        → IsObjectOf now class (denote before objects v) → (ws : List Write) → AllGoodWrites form variables before objects now ws → (x : Value)
+        → through form most answers class v p ws ≡ Done x → Holds now ws (denote before objects v) p x
     through_so now class v p good is [] writes x done = unwritten_so now v p x good done
     through_so now class v p good is (w ∷ ws) writes x done =
         let two = bound (is_found answers class v p w) (λ found. if found then Done w.value else through form most answers class v p ws) x done in
@@ -152,7 +168,9 @@ module _ (form : Form) (variables : List (Option ℕ)) (before : List Object) (o
         (through_so now class v p good is ws writes.1 x) two.2
 
     -- a field of a value is what its object's field holds now
-    pub field_so : (ws : List Write) (count : ℕ) (now : List Object) → Matches form variables before objects ws count now → (v : Value) (p : ℕ) (x : Value) → IsGood form variables before objects now v → field_of form most answers ws v p ≡ Done x → IsGood form variables before objects now x × (denote before objects x ≡ get now (denote before objects v) p)
+    pub field_so : (ws : List Write) (count : ℕ) (now : List Object) → Matches form variables before objects ws count now → (v : Value) (p : ℕ) (x : Value)
+        → IsGood form variables before objects now v → field_of form most answers ws v p ≡ Done x
+        → IsGood form variables before objects now x × (denote before objects x ≡ get now (denote before objects v) p)
     field_so ws count now m (Before class t) p x good done =
         let h = through_so now class (Before class t) p good (m.kept class (object_of before objects t) (term_object t class good)) ws m.good x done in
         (h.0, h.1 ∙ sym (m.fields (object_of before objects t) p))
@@ -164,7 +182,9 @@ module _ (form : Form) (variables : List (Option ℕ)) (before : List Object) (o
         subst (λ (y : Value). IsGood form variables before objects now y × (denote before objects y ≡ get now 0 p)) none (tt, refl)
 
     -- what the fields lead to
-    pub led_so : (ws : List Write) (count : ℕ) (now : List Object) → Matches form variables before objects ws count now → (ps : List ℕ) (v x : Value) → IsGood form variables before objects now v → led form most answers ws v ps ≡ Done x → IsGood form variables before objects now x × (denote before objects x ≡ fold (get now) (denote before objects v) ps)
+    pub led_so : (ws : List Write) (count : ℕ) (now : List Object) → Matches form variables before objects ws count now → (ps : List ℕ) (v x : Value)
+        → IsGood form variables before objects now v → led form most answers ws v ps ≡ Done x
+        → IsGood form variables before objects now x × (denote before objects x ≡ fold (get now) (denote before objects v) ps)
     led_so ws count now m [] v x good done =
         let one : v ≡ x = cc in
         subst (λ (y : Value). IsGood form variables before objects now y × (denote before objects y ≡ denote before objects v)) one (good, refl)

@@ -9,14 +9,13 @@ use Rattle.easl_model.specs.declared.form.Reach as path
 use Rattle.easl_model.specs.declared.form.Source.{Source}
 use Rattle.easl_model.specs.declared.form.Source.TheVariants.{Reach, Make}
 use Rattle.easl_heap.specs.Body as told
-use Rattle.easl_heap.specs.Clause as clauses
 use Rattle.easl_heap.specs.Full.{KeepsClasses}
 use Rattle.easl_heap.specs.Heap.{Object, IsObjectOf, fresh, object_at, write}
 use Rattle.easl_heap.specs.Heap as heap_of
 use Rattle.easl_heap.proofs.Whole.{adding_keeps, number_fresh, writing_keeps}
 use Rattle.easl_heap.proofs.Writes.{at_last, is_object, object_of, write_length}
 use Rattle.question_model.specs.Bodies.{Making, Outcome, argument, arguments, made, outcome, returned, run, step, value}
-use Rattle.question_model.specs.Stage.{Stage, Done, ◌>>=◌}
+use Rattle.question_model.specs.Stage.{Done, ◌>>=◌}
 use Rattle.question_model.specs.States.{State, ended, holds, reached, state}
 use Rattle.question_model.specs.Values.{written, written_in}
 use Rattle.question_model.specs.declared.answer.Answer.{Answer}
@@ -33,10 +32,15 @@ use Rattle.question_model.proofs.Reading.{term_object}
 module _ (form : Form) (variables : List (Option ℕ)) (before : List Object) (objects : List ℕ) where
   -- constructions on symbolic values follow those on the heap
   abbrev pub Simulates : Making → told.Making → Type 0
-  Simulates make real = (class : ℕ) (vs : List Value) (writes : List values.Write) (count : ℕ) (heap : List Object) (steps : ℕ) (x : Outcome) → Matches form variables before objects writes count heap → AllGood form variables before objects heap vs → make class vs writes count ≡ Done x → Leaves form variables before objects x heap (real class (map (denote before objects) vs) heap steps)
+  Simulates make real = (class : ℕ) (vs : List Value) (writes : List values.Write) (count : ℕ) (heap : List Object) (steps : ℕ) (x : Outcome)
+      → Matches form variables before objects writes count heap → AllGood form variables before objects heap vs → make class vs writes count ≡ Done x
+      → Leaves form variables before objects x heap (real class (map (denote before objects) vs) heap steps)
 
   -- a write
-  pub write_there : (ws : List values.Write) (count : ℕ) (heap : List Object) → Matches form variables before objects ws count heap → (class : ℕ) (owner : Value) → IsGood form variables before objects heap owner → IsObjectOf heap class (denote before objects owner) → (p : ℕ) (v : Value) → IsGood form variables before objects heap v → (o : Option ℕ) → slice_get (fields_of form class) p ≡ o → Matches form variables before objects (written_in class owner p v ws o) count (write heap (denote before objects owner) p (denote before objects v))
+  pub write_there : (ws : List values.Write) (count : ℕ) (heap : List Object) → Matches form variables before objects ws count heap
+      → (class : ℕ) (owner : Value) → IsGood form variables before objects heap owner → IsObjectOf heap class (denote before objects owner)
+      → (p : ℕ) (v : Value) → IsGood form variables before objects heap v → (o : Option ℕ) → slice_get (fields_of form class) p ≡ o
+      → Matches form variables before objects (written_in class owner p v ws o) count (write heap (denote before objects owner) p (denote before objects v))
   write_there ws count heap m class owner good is p v good_v None at =
       subst (Matches form variables before objects ws count)
       (sym (write_no_field form heap class (denote before objects owner) p (denote before objects v) m.wide is at)) m
@@ -58,21 +62,26 @@ module _ (form : Form) (variables : List (Option ℕ)) (before : List Object) (o
           writes_stay form variables before objects heap new ws keeps m.good,
         );
         fields = λ k q.
-            get_write heap n p (denote before objects v) k q o.0 o.1 (omega (arith, slice_get_within (fields_of form class) p of at, m.wide n o.0 o.1, ap (λ c. length (fields_of form c)) o.2))
+            get_write heap n p (denote before objects v) k q o.0 o.1
+            (omega (arith, slice_get_within (fields_of form class) p of at, m.wide n o.0 o.1, ap (λ c. length (fields_of form c)) o.2))
             ∙ ap (λ z. if n == k && p == q then denote before objects v else z) (m.fields k q);
       }
 
 module _ (form : Form) (variables : List (Option ℕ)) (before : List Object) (objects : List ℕ) (start : Start form variables before objects) where
-  pub written_so : (ws : List values.Write) (count : ℕ) (heap : List Object) → Matches form variables before objects ws count heap → (owner : Value) → IsGood form variables before objects heap owner → (p : ℕ) (v : Value) → IsGood form variables before objects heap v → Matches form variables before objects (written form owner p v ws) count (write heap (denote before objects owner) p (denote before objects v))
+  pub written_so : (ws : List values.Write) (count : ℕ) (heap : List Object) → Matches form variables before objects ws count heap → (owner : Value)
+      → IsGood form variables before objects heap owner → (p : ℕ) (v : Value) → IsGood form variables before objects heap v
+      → Matches form variables before objects (written form owner p v ws) count (write heap (denote before objects owner) p (denote before objects v))
   written_so ws count heap m (Before class t) good p v good_v =
       write_there form variables before objects ws count heap m class (Before class t) good
-      (m.kept class (denote before objects (Before class t)) (term_object form variables before objects start t class good)) p v good_v (slice_get (fields_of form class) p) refl
+      (m.kept class (denote before objects (Before class t)) (term_object form variables before objects start t class good)) p v good_v
+      (slice_get (fields_of form class) p) refl
   written_so ws count heap m (Fresh class n) good p v good_v =
       write_there form variables before objects ws count heap m class (Fresh class n) good good p v good_v (slice_get (fields_of form class) p) refl
   written_so ws count heap m Nothing good p v good_v = m
 
   -- a fresh object
-  adding_so : (ws : List values.Write) (count : ℕ) (heap : List Object) (class : ℕ) → Matches form variables before objects ws count heap → Matches form variables before objects ws (suc count) (heap ++ fresh form class ∷ [])
+  adding_so : (ws : List values.Write) (count : ℕ) (heap : List Object) (class : ℕ) → Matches form variables before objects ws count heap
+      → Matches form variables before objects ws (suc count) (heap ++ fresh form class ∷ [])
   adding_so ws count heap class m =
       let keeps = adding_keeps heap (fresh form class) in
       record {
@@ -83,23 +92,29 @@ module _ (form : Form) (variables : List (Option ℕ)) (before : List Object) (o
         fields = λ n p. get_adding form class heap n p ∙ m.fields n p;
       }
 
-  fresh_good : (ws : List values.Write) (count : ℕ) (heap : List Object) (class : ℕ) → Matches form variables before objects ws count heap → IsGood form variables before objects (heap ++ fresh form class ∷ []) (Fresh class count)
+  fresh_good : (ws : List values.Write) (count : ℕ) (heap : List Object) (class : ℕ) → Matches form variables before objects ws count heap
+      → IsGood form variables before objects (heap ++ fresh form class ∷ []) (Fresh class count)
   fresh_good ws count heap class m =
       let number : length heap + 1 ≡ length before + suc count = omega (arith, m.made) in
       subst (IsObjectOf (heap ++ fresh form class ∷ []) class) number
       (is_object (heap ++ fresh form class ∷ []) (length heap + 1) (fresh form class) (at_last heap (fresh form class)))
 
-  fresh_is : (ws : List values.Write) (count : ℕ) (heap : List Object) (class : ℕ) → Matches form variables before objects ws count heap → length heap + 1 ≡ denote before objects (Fresh class count)
+  fresh_is : (ws : List values.Write) (count : ℕ) (heap : List Object) (class : ℕ) → Matches form variables before objects ws count heap
+      → length heap + 1 ≡ denote before objects (Fresh class count)
   fresh_is ws count heap class m = omega (arith, m.made)
 
   module _ (most : Option ℕ) (answers : List Answer) (agree : Agree before objects answers) where
-    argument_so : (s : State) (heap : List Object) (slots : List ℕ) → Follows form variables before objects s heap slots → (a : Option path.Reach) (x : Value) → argument form most answers s a ≡ Done x → IsGood form variables before objects heap x × (denote before objects x ≡ told.argument heap slots a)
+    argument_so : (s : State) (heap : List Object) (slots : List ℕ) → Follows form variables before objects s heap slots
+        → (a : Option path.Reach) (x : Value) → argument form most answers s a ≡ Done x
+        → IsGood form variables before objects heap x × (denote before objects x ≡ told.argument heap slots a)
     argument_so s heap slots f None x done =
         let none : Nothing ≡ x = cc in
         subst (λ (y : Value). IsGood form variables before objects heap y × (denote before objects y ≡ 0)) none (tt, refl)
     argument_so s heap slots f (Some r) x done = reached_so form variables before objects start most answers agree s heap slots f r x done
 
-    arguments_so : (s : State) (heap : List Object) (slots : List ℕ) → Follows form variables before objects s heap slots → (args : List (Option path.Reach)) (vs : List Value) → arguments form most answers s args ≡ Done vs → AllGood form variables before objects heap vs × (map (denote before objects) vs ≡ map (told.argument heap slots) args)
+    arguments_so : (s : State) (heap : List Object) (slots : List ℕ) → Follows form variables before objects s heap slots
+        → (args : List (Option path.Reach)) (vs : List Value) → arguments form most answers s args ≡ Done vs
+        → AllGood form variables before objects heap vs × (map (denote before objects) vs ≡ map (told.argument heap slots) args)
     arguments_so s heap slots f [] vs done =
         let none : [] ≡ vs = cc in
         subst (λ (ys : List Value). AllGood form variables before objects heap ys × (map (denote before objects) ys ≡ [])) none (tt, refl)
@@ -109,11 +124,13 @@ module _ (form : Form) (variables : List (Option ℕ)) (before : List Object) (o
         let first = argument_so s heap slots f a two.0 two.1 in
         let rest = arguments_so s heap slots f args more.0 more.1 in
         let all : two.0 ∷ more.0 ≡ vs = let e = more.2 in cc in
-        subst (λ (ys : List Value). AllGood form variables before objects heap ys × (map (denote before objects) ys ≡ told.argument heap slots a ∷ map (told.argument heap slots) args)) all
+        subst (λ (ys : List Value). AllGood form variables before objects heap ys
+        × (map (denote before objects) ys ≡ told.argument heap slots a ∷ map (told.argument heap slots) args)) all
         ((first.0, rest.0), ap₂ (λ n ns. n ∷ ns) first.1 rest.1)
 
     module _ (make : Making) (real : told.Making) (simulates : Simulates form variables before objects make real) where
-      pub value_so : (s : State) (m : told.Moment) → Follows form variables before objects s m.heap m.slots → (v : Source) (x : Outcome) → value form most answers make v s ≡ Done x → Leaves form variables before objects x m.heap (told.value real v m)
+      pub value_so : (s : State) (m : told.Moment) → Follows form variables before objects s m.heap m.slots → (v : Source) (x : Outcome)
+          → value form most answers make v s ≡ Done x → Leaves form variables before objects x m.heap (told.value real v m)
       value_so s m f (Reach r) x done =
           let two = bound (reached form most answers s r) (λ v. Done (outcome s.writes s.count v)) x done in
           let got = reached_so form variables before objects start most answers agree s m.heap m.slots f r two.0 two.1 in
@@ -153,7 +170,9 @@ module _ (form : Form) (variables : List (Option ℕ)) (before : List Object) (o
       chosen s m first second one other false t done = other t done
 
       mutual
-        step_so : (a : Statement) (s : State) (m : told.Moment) → Follows form variables before objects s m.heap m.slots → (t : State) → step form most answers make a s ≡ Done t → Follows form variables before objects t (told.step real a m).heap (told.step real a m).slots × KeepsClasses m.heap (told.step real a m).heap
+        step_so : (a : Statement) (s : State) (m : told.Moment) → Follows form variables before objects s m.heap m.slots → (t : State)
+            → step form most answers make a s ≡ Done t
+            → Follows form variables before objects t (told.step real a m).heap (told.step real a m).slots × KeepsClasses m.heap (told.step real a m).heap
         step_so (Local v) s m f t done =
             let two = bound (value form most answers make v s) (λ x. Done (state (s.slots ++ x.result ∷ []) x.writes x.count)) t done in
             let l = value_so s m f v two.0 two.1 in
@@ -164,7 +183,8 @@ module _ (form : Form) (variables : List (Option ℕ)) (before : List Object) (o
                   (record {
                     matches = l.matches;
                     slots_are = ap₂ (λ ns n. ns ++ n ∷ []) f.slots_are l.result ∙ sym (last_is before objects s.slots x.result);
-                    good = good_last form variables before objects o.heap s.slots x.result (stay_good form variables before objects m.heap o.heap s.slots l.kept f.good) l.good;
+                    good = good_last form variables before objects o.heap s.slots x.result
+                        (stay_good form variables before objects m.heap o.heap s.slots l.kept f.good) l.good;
                   }),
               l.kept,
             )
@@ -178,12 +198,14 @@ module _ (form : Form) (variables : List (Option ℕ)) (before : List Object) (o
                   (record {
                     matches = l.matches;
                     slots_are = ap₂ (λ ns n. slice_set ns slot n) f.slots_are l.result ∙ sym (set_is before objects s.slots slot x.result);
-                    good = good_set form variables before objects o.heap s.slots slot x.result (stay_good form variables before objects m.heap o.heap s.slots l.kept f.good) l.good;
+                    good = good_set form variables before objects o.heap s.slots slot x.result
+                        (stay_good form variables before objects m.heap o.heap s.slots l.kept f.good) l.good;
                   }),
               l.kept,
             )
         step_so (Write target p v) s m f t done =
-            let owned = bound (reached form most answers s target) (λ owner. value form most answers make v s >>= (λ x. Done (state s.slots (written form owner p x.result x.writes) x.count))) t done in
+            let owned = bound (reached form most answers s target)
+            (λ owner. value form most answers make v s >>= (λ x. Done (state s.slots (written form owner p x.result x.writes) x.count))) t done in
             let two = bound (value form most answers make v s) (λ x. Done (state s.slots (written form owned.0 p x.result x.writes) x.count)) t owned.2 in
             let got = reached_so form variables before objects start most answers agree s m.heap m.slots f target owned.0 owned.1 in
             let l = value_so s m f v two.0 two.1 in
@@ -193,19 +215,23 @@ module _ (form : Form) (variables : List (Option ℕ)) (before : List Object) (o
             let one : state s.slots (written form owned.0 p x.result x.writes) x.count ≡ t = let e = two.2 in cc in
             let keeps = writing_keeps o.heap n p o.result in
             let both : KeepsClasses m.heap (write o.heap n p o.result) = λ c k is. keeps c k (l.kept c k is) in
-            let new : Matches form variables before objects (written form owned.0 p x.result x.writes) x.count (write o.heap (denote before objects owned.0) p (denote before objects x.result)) = written_so x.writes x.count o.heap l.matches owned.0 (stays_good form variables before objects m.heap o.heap owned.0 l.kept got.0) p x.result l.good in (
+            let new : Matches form variables before objects (written form owned.0 p x.result x.writes) x.count
+            (write o.heap (denote before objects owned.0) p (denote before objects x.result)) = written_so x.writes x.count o.heap l.matches owned.0
+            (stays_good form variables before objects m.heap o.heap owned.0 l.kept got.0) p x.result l.good in (
               subst (λ (y : State). Follows form variables before objects y (write o.heap n p o.result) m.slots) one
                   (record {
-                    matches = subst (λ k. Matches form variables before objects (written form owned.0 p x.result x.writes) x.count (write o.heap n p k)) (sym l.result)
-                        (subst (λ k. Matches form variables before objects (written form owned.0 p x.result x.writes) x.count (write o.heap k p (denote before objects x.result))) got.1 new);
+                    matches = subst (λ k. Matches form variables before objects (written form owned.0 p x.result x.writes) x.count (write o.heap n p k))
+                        (sym l.result)
+                        (subst (λ k. Matches form variables before objects (written form owned.0 p x.result x.writes) x.count
+                        (write o.heap k p (denote before objects x.result))) got.1 new);
                     slots_are = f.slots_are;
                     good = stay_good form variables before objects m.heap (write o.heap n p o.result) s.slots both f.good;
                   }),
               both,
             )
-
         step_so (If c first second) s m f t done =
-            let two = bound (holds form most answers s c) (λ b. (if b then run form most answers make first s else run form most answers make second s) >>= (λ u. Done (ended s u))) t done in
+            let two = bound (holds form most answers s c)
+            (λ b. (if b then run form most answers make first s else run form most answers make second s) >>= (λ u. Done (ended s u))) t done in
             let ran = bound (if two.0 then run form most answers make first s else run form most answers make second s) (λ u. Done (ended s u)) t two.2 in
             let is = holds_so form variables before objects start most answers agree s m.heap m.slots f c two.0 two.1 in
             let goes = chosen s m first second (λ u. run_so first s m f u) (λ u. run_so second s m f u) two.0 ran.0 ran.1 in
@@ -214,7 +240,9 @@ module _ (form : Form) (variables : List (Option ℕ)) (before : List Object) (o
             subst (λ b. Goes m t (told.ended m (if b then told.run real first m else told.run real second m))) is
             (subst (λ (y : State). Goes m y (told.ended m (if two.0 then told.run real first m else told.run real second m))) last all)
 
-        pub run_so : (xs : Statements) (s : State) (m : told.Moment) → Follows form variables before objects s m.heap m.slots → (t : State) → run form most answers make xs s ≡ Done t → Follows form variables before objects t (told.run real xs m).heap (told.run real xs m).slots × KeepsClasses m.heap (told.run real xs m).heap
+        pub run_so : (xs : Statements) (s : State) (m : told.Moment) → Follows form variables before objects s m.heap m.slots → (t : State)
+            → run form most answers make xs s ≡ Done t
+            → Follows form variables before objects t (told.run real xs m).heap (told.run real xs m).slots × KeepsClasses m.heap (told.run real xs m).heap
         run_so none s m f t done =
             let one : s ≡ t = cc in
             (subst (λ (y : State). Follows form variables before objects y m.heap m.slots) one f, λ c k is. is)
@@ -225,7 +253,8 @@ module _ (form : Form) (variables : List (Option ℕ)) (before : List Object) (o
             let rest = run_so xs two.0 m' first.0 t two.2 in
             (rest.0, λ c k is. rest.1 c k (first.1 c k is))
 
-      pub returned_so : (s : State) (m : told.Moment) → Follows form variables before objects s m.heap m.slots → (v : Option Source) (x : Outcome) → returned form most answers make v s ≡ Done x → Leaves form variables before objects x m.heap (told.returned real v m)
+      pub returned_so : (s : State) (m : told.Moment) → Follows form variables before objects s m.heap m.slots → (v : Option Source) (x : Outcome)
+          → returned form most answers make v s ≡ Done x → Leaves form variables before objects x m.heap (told.returned real v m)
       returned_so s m f None x done =
           let one : outcome s.writes s.count Nothing ≡ x = cc in
           subst (λ (y : Outcome). Leaves form variables before objects y m.heap (told.outcome m.heap 0 m.steps)) one

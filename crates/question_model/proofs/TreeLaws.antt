@@ -19,11 +19,16 @@ module _ (question : List Answer → Stage Bool) where
       let e : Needs t u ≡ Needs v w = sym is.0 ∙ also.0 in
       let first : v ≡ t = cc in
       let second : w ≡ u = cc in
-      let yes = same_tree x p (answers ++ said t u true ∷ []) is.1 (subst (λ a. IsTreeBehind question (answers ++ said a u true ∷ []) p) first (subst (λ a. IsTreeBehind question (answers ++ said v a true ∷ []) p) second also.1)) in
-      let no = same_tree y q (answers ++ said t u false ∷ []) is.2 (subst (λ a. IsTreeBehind question (answers ++ said a u false ∷ []) q) first (subst (λ a. IsTreeBehind question (answers ++ said v a false ∷ []) q) second also.2)) in
+      let yes = same_tree x p (answers ++ said t u true ∷ []) is.1
+      (subst (λ a. IsTreeBehind question (answers ++ said a u true ∷ []) p) first
+      (subst (λ a. IsTreeBehind question (answers ++ said v a true ∷ []) p) second also.1)) in
+      let no = same_tree y q (answers ++ said t u false ∷ []) is.2
+      (subst (λ a. IsTreeBehind question (answers ++ said a u false ∷ []) q) first
+      (subst (λ a. IsTreeBehind question (answers ++ said v a false ∷ []) q) second also.2)) in
       λ i. Ask (sym first i) (sym second i) (yes i) (no i)
 
-  branch : (t u : Term) (x y : Tree) (answers : List Answer) (same : Bool) → IsTreeBehind question (answers ++ said t u true ∷ []) x → IsTreeBehind question (answers ++ said t u false ∷ []) y → (z : Tree) × IsTreeBehind question (answers ++ said t u same ∷ []) z
+  branch : (t u : Term) (x y : Tree) (answers : List Answer) (same : Bool) → IsTreeBehind question (answers ++ said t u true ∷ []) x
+      → IsTreeBehind question (answers ++ said t u false ∷ []) y → (z : Tree) × IsTreeBehind question (answers ++ said t u same ∷ []) z
   branch t u x y answers true is also = (x, is)
   branch t u x y answers false is also = (y, also)
 
@@ -37,7 +42,8 @@ module _ (question : List Answer → Stage Bool) where
       let second : u ≡ w = cc in
       let z = branch t u x y answers same is.1 is.2 in
       not_long (answers ++ said v w same ∷ []) long z.0
-      (subst (λ a. IsTreeBehind question (answers ++ said a w same ∷ []) z.0) first (subst (λ a. IsTreeBehind question (answers ++ said t a same ∷ []) z.0) second z.1))
+      (subst (λ a. IsTreeBehind question (answers ++ said a w same ∷ []) z.0) first
+      (subst (λ a. IsTreeBehind question (answers ++ said t a same ∷ []) z.0) second z.1))
 
 pub one_tree : OneTree
 one_tree question x y is also = same_tree question x y [] is also
@@ -46,7 +52,8 @@ pub tree_or_long : TreeOrLong
 tree_or_long question x is long = not_long question [] long x is
 
 -- where a term is too long on a branch, it is so before
-pub long_on : (question : List Answer → Stage Bool) (answers : List Answer) (t u : Term) (same : Bool) → question answers ≡ Needs t u → IsLongBehind question (answers ++ said t u same ∷ []) → IsLongBehind question answers
+pub long_on : (question : List Answer → Stage Bool) (answers : List Answer) (t u : Term) (same : Bool) → question answers ≡ Needs t u
+    → IsLongBehind question (answers ++ said t u same ∷ []) → IsLongBehind question answers
 long_on question answers t u same is long = further answers t u same is long
 
 pub long_here : (question : List Answer → Stage Bool) (answers : List Answer) → question answers ≡ Long → IsLongBehind question answers

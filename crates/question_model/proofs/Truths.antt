@@ -31,12 +31,17 @@ use Rattle.std.proofs.lemmas.Option.{slice_get_within}
 use Rattle.question_model.proofs.Meaning.{IsGood, Start, denote}
 
 -- where each answer that is done is right, the tree's answer is
-module _ (question : List Answer → Stage Bool) (heap : List Object) (objects : List ℕ) (truth : Bool) (right : (answers : List Answer) → Agree heap objects answers → (b : Bool) → question answers ≡ Done b → b ≡ truth) where
-  chosen : (t u : Term) (x y : Tree) (one : Bool) → one ≡ by_objects heap objects t u → (true ≡ by_objects heap objects t u → answer (by_objects heap objects) x ≡ truth) → (false ≡ by_objects heap objects t u → answer (by_objects heap objects) y ≡ truth) → (if one then answer (by_objects heap objects) x else answer (by_objects heap objects) y) ≡ truth
+module _ (question : List Answer → Stage Bool) (heap : List Object) (objects : List ℕ) (truth : Bool)
+    (right : (answers : List Answer) → Agree heap objects answers → (b : Bool) → question answers ≡ Done b → b ≡ truth) where
+  chosen : (t u : Term) (x y : Tree) (one : Bool) → one ≡ by_objects heap objects t u
+      → (true ≡ by_objects heap objects t u → answer (by_objects heap objects) x ≡ truth)
+      → (false ≡ by_objects heap objects t u → answer (by_objects heap objects) y ≡ truth)
+      → (if one then answer (by_objects heap objects) x else answer (by_objects heap objects) y) ≡ truth
   chosen t u x y true is first second = first is
   chosen t u x y false is first second = second is
 
-  pub tree_right : (tree : Tree) (answers : List Answer) → Agree heap objects answers → IsTreeBehind question answers tree → answer (by_objects heap objects) tree ≡ truth
+  pub tree_right : (tree : Tree) (answers : List Answer) → Agree heap objects answers → IsTreeBehind question answers tree
+      → answer (by_objects heap objects) tree ≡ truth
   tree_right (Leaf b) answers agree is = right answers agree b is
   tree_right (Ask t u x y) answers agree is =
       chosen t u x y (by_objects heap objects t u) refl
@@ -66,14 +71,19 @@ module _ (form : Form) (m : Method) (family : Family) (results : ℕ) (before : 
     args_are = begins form m _ _ _ before objects are
 
     -- the object of a variable after the call
-    pick : (now : List Object) (result : Value) (r : ℕ) → IsGood form (variables_of m (before_call family results)) before objects now result → denote before objects result ≡ r → (bit : Bool) (n : ℕ) (c : Option ℕ) (class : ℕ) → c ≡ Some class → slice_get (variables_of m (before_call family results)) n ≡ Some (if bit then None else c) → IsGood form (variables_of m (before_call family results)) before objects now (if bit then result else variable n c) × (denote before objects (if bit then result else variable n c) ≡ (if bit then r else slice_index objects n))
+    pick : (now : List Object) (result : Value) (r : ℕ) → IsGood form (variables_of m (before_call family results)) before objects now result
+        → denote before objects result ≡ r → (bit : Bool) (n : ℕ) (c : Option ℕ) (class : ℕ) → c ≡ Some class
+        → slice_get (variables_of m (before_call family results)) n ≡ Some (if bit then None else c)
+        → IsGood form (variables_of m (before_call family results)) before objects now (if bit then result else variable n c)
+        × (denote before objects (if bit then result else variable n c) ≡ (if bit then r else slice_index objects n))
     pick now result r good is true n c class some at = (good, is)
     pick now result r good is false n None class some at = absurd (cc)
     pick now result r good is false n (Some k) class some at = (record { start = k; variable = at; leads = refl }, refl)
 
     module _ (x : Outcome) (left : told.Outcome) (l : Leaves form (variables_of m (before_call family results)) before objects x before left) where
       abbrev Known : ℕ → Type 0
-      Known n = IsKnown form (variables_of m (before_call family results)) before objects begun most answers agree x.writes x.count left.heap l.matches (after_call family results x.result) (put results left.result objects) n
+      Known n = IsKnown form (variables_of m (before_call family results)) before objects begun most answers agree x.writes x.count left.heap l.matches
+          (after_call family results x.result) (put results left.result objects) n
 
       known_at : (n class : ℕ) → n < 3 → slice_get family.classes n ≡ Some class → Known n
       known_at zero class few at =
@@ -87,7 +97,9 @@ module _ (form : Form) (m : Method) (family : Family) (results : ℕ) (before : 
           record { good = p.0; is = p.1 }
       known_at (suc (suc (suc n))) class few at = absurd (omega arith)
 
-      both_known : (ls : List Literal) → All (IsLiteralOf form (map (λ c. Some c) family.classes)) ls → AllKnown form variables before objects begun most answers agree x.writes x.count left.heap l.matches (after_call family results x.result) (put results left.result objects) ls
+      both_known : (ls : List Literal) → All (IsLiteralOf form (map (λ c. Some c) family.classes)) ls
+          → AllKnown form variables before objects begun most answers agree x.writes x.count left.heap l.matches (after_call family results x.result)
+          (put results left.result objects) ls
       both_known [] all = tt
       both_known (k ∷ ls) all =
           let is : IsLiteralOf form (map (λ c. Some c) family.classes) k = all 0 k (omega arith) in
@@ -100,14 +112,19 @@ module _ (form : Form) (m : Method) (family : Family) (results : ℕ) (before : 
             both_known ls (λ n d within. all (suc n) d (omega arith)),
           )
 
-    update_so : (b : Bool) → update form most answers m family results ≡ Done b → b ≡ cube_holds (by_objects (told.called form m (arguments_in m objects) before).heap (put results (told.called form m (arguments_in m objects) before).result objects)) family.cube.literals
+    update_so : (b : Bool) → update form most answers m family results ≡ Done b
+        → b ≡ cube_holds (by_objects (told.called form m (arguments_in m objects) before).heap
+        (put results (told.called form m (arguments_in m objects) before).result objects)) family.cube.literals
     update_so b done =
-        let two = bound (called form most answers m (arguments_of m)) (λ x. cube_after form most answers x.writes (after_call family results x.result) family.cube.literals) b done in
+        let two = bound (called form most answers m (arguments_of m))
+        (λ x. cube_after form most answers x.writes (after_call family results x.result) family.cube.literals) b done in
         let x : Outcome = two.0 in
         let left : told.Outcome = told.called form m (arguments_in m objects) before in
-        let l : Leaves form variables before objects x before left = subst (λ ns. Leaves form variables before objects x before (told.called form m ns before)) (sym args_are.are)
+        let l : Leaves form variables before objects x before left = subst
+        (λ ns. Leaves form variables before objects x before (told.called form m ns before)) (sym args_are.are)
         (called_so form variables before objects begun most answers agree m (arguments_of m) args_are.good x two.1) in
-        cube_so form variables before objects begun most answers agree x.writes x.count left.heap l.matches (after_call family results x.result) (put results left.result objects)
+        cube_so form variables before objects begun most answers agree x.writes x.count left.heap l.matches (after_call family results x.result)
+        (put results left.result objects)
         family.cube.literals (both_known x left l family.cube.literals fits.literals) b two.2
 
 pub update_law : UpdateLaw

@@ -12,12 +12,14 @@ module _ (question : List Answer → Stage Bool) where
   -- behind these answers the tree asks what is needed, and goes on with each answer
   abbrev pub IsTreeBehind : List Answer → Tree → Type 0
   IsTreeBehind answers (Leaf b) = question answers ≡ Done b
-  IsTreeBehind answers (Ask t u x y) = (question answers ≡ Needs t u) × IsTreeBehind (answers ++ said t u true ∷ []) x × IsTreeBehind (answers ++ said t u false ∷ []) y
+  IsTreeBehind answers (Ask t u x y) = (question answers ≡ Needs t u) × IsTreeBehind (answers ++ said t u true ∷ []) x
+      × IsTreeBehind (answers ++ said t u false ∷ []) y
 
   -- on a branch behind these answers a term would be too long
   pub data IsLongBehind : List Answer → Type 0 where
     here : (answers : List Answer) → question answers ≡ Long → IsLongBehind answers
-    further : (answers : List Answer) (t u : Term) (same : Bool) → question answers ≡ Needs t u → IsLongBehind (answers ++ said t u same ∷ []) → IsLongBehind answers
+    further : (answers : List Answer) (t u : Term) (same : Bool) → question answers ≡ Needs t u → IsLongBehind (answers ++ said t u same ∷ [])
+        → IsLongBehind answers
 
   abbrev pub IsTree : Tree → Type 0
   IsTree tree = IsTreeBehind [] tree

@@ -9,7 +9,7 @@ use Rattle.access_paths.specs.declared.term.Family.{Family}
 use Rattle.access_paths.specs.declared.tree.SplitFault.{SplitFault}
 use Rattle.access_paths.specs.declared.tree.SplitFault.TheVariants.{Path, Memory}
 use Rattle.access_paths.specs.declared.tree.Tree.{Tree}
-use Rattle.question_model.specs.Questions.{fails, update}
+use Rattle.question_model.specs.{fails, update}
 use Rattle.question_model.specs.Split.{IsLongBehind, IsTreeBehind}
 use Rattle.question_model.specs.Stage.{Stage}
 use Rattle.question_model.specs.declared.answer.Answer.{Answer}

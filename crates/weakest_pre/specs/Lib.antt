@@ -1,2 +1,3 @@
 pub mod Growing
 pub mod Running
+pub use Rattle.weakest_pre.specs.Growing.{HasClause, IsClauseAt, IsClauseSplit, IsSplit}

@@ -7,6 +7,7 @@ use std::alloc::Global;
 use std::cmp::Ordering;
 
 /// The answers that were given so far, and the specification whose bodies are executed.
+#[derive(Drop)]
 pub struct Branch<'a> {
     pub alloc: Global,
     pub spec: &'a CheckedSpec,

@@ -34,12 +34,7 @@ impl Effects {
 
 impl Branch<'_> {
     /// What the path leads to.
-    pub fn reached(
-        &self,
-        slots: &[Value],
-        effects: &Effects,
-        path: &Reach,
-    ) -> Result<Value, Stop>
+    pub fn reached(&self, slots: &[Value], effects: &Effects, path: &Reach) -> Result<Value, Stop>
         ensures { Gives (told.reached self.now.spec.now most self.now.answers.now
             (state slots.now effects.now.writes.items effects.now.count) path.now) result }
     {
@@ -81,12 +76,7 @@ impl Branch<'_> {
     }
 
     #[cycle(condition)]
-    fn all_hold(
-        &self,
-        slots: &[Value],
-        effects: &Effects,
-        tests: &[Test],
-    ) -> Result<bool, Stop>
+    fn all_hold(&self, slots: &[Value], effects: &Effects, tests: &[Test]) -> Result<bool, Stop>
         ensures { Gives (told.all_hold self.now.spec.now most self.now.answers.now
             (state slots.now effects.now.writes.items effects.now.count) (conditions (map condition_of tests.now))) result }
     {
@@ -99,12 +89,7 @@ impl Branch<'_> {
     }
 
     #[cycle(condition)]
-    fn any_holds(
-        &self,
-        slots: &[Value],
-        effects: &Effects,
-        tests: &[Test],
-    ) -> Result<bool, Stop>
+    fn any_holds(&self, slots: &[Value], effects: &Effects, tests: &[Test]) -> Result<bool, Stop>
         ensures { Gives (told.any_holds self.now.spec.now most self.now.answers.now
             (state slots.now effects.now.writes.items effects.now.count) (conditions (map condition_of tests.now))) result }
     {

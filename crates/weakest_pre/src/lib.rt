@@ -5,5 +5,9 @@ mod body;
 mod branch;
 mod condition;
 mod field;
+mod grow;
 mod question;
+mod splits;
 mod stop;
+
+pub use splits::{split, split_clause};

@@ -100,12 +100,7 @@ fn after_call(
 
 impl Branch<'_> {
     /// What a term leads to after the writes, from the values of the variables.
-    fn term_after(
-        &self,
-        writes: &[Write],
-        variables: &[Value],
-        term: &Term,
-    ) -> Result<Value, Stop>
+    fn term_after(&self, writes: &[Write], variables: &[Value], term: &Term) -> Result<Value, Stop>
         ensures { Gives (told.term_after self.now.spec.now most self.now.answers.now writes.now variables.now term.now) result }
     {
         match variables.get(term.var.0 as usize) {
@@ -155,11 +150,9 @@ impl Branch<'_> {
         let args = arguments_of(self.alloc, method)?;
         let given = self.called(method, args, &mut effects)?;
         let variables = after_call(self.alloc, family, results, &given)?;
-        self.cube_after(
-            effects.writes.as_slice(),
-            variables.as_slice(),
-            family.cube.literals.as_slice(),
-        )
+        let writes = effects.writes.as_slice();
+        let literals = family.cube.literals.as_slice();
+        self.cube_after(writes, variables.as_slice(), literals)
     }
 
     /// Whether the clause is false before the call.

@@ -26,6 +26,6 @@ decreases-block l = 200 * l.depth + 3 * written_in (statements_of l.acts.now) + 
 abbrev pub invariant-run-each : goal.invariant-run-each
 invariant-run-each l =
     told.run l.self.spec.now most l.self.answers.now (made l.self.spec.now most l.self.answers.now l.depth)
-      (statements_of (drop l.act-index l.acts)) (state l.slots.items l.effects.writes.items l.effects.count)
-      ≡ told.run l.self.spec.now most l.self.answers.now (made l.self.spec.now most l.self.answers.now l.depth)
-      (statements_of l.acts) (state l.initial.slots.items l.initial.effects.writes.items l.initial.effects.count)
+    (statements_of (drop l.act-index l.acts)) (state l.slots.items l.effects.writes.items l.effects.count)
+    ≡ told.run l.self.spec.now most l.self.answers.now (made l.self.spec.now most l.self.answers.now l.depth)
+    (statements_of l.acts) (state l.initial.slots.items l.initial.effects.writes.items l.initial.effects.count)
