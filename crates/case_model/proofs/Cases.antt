@@ -11,6 +11,7 @@ use Rattle.easl_model.specs.Conditions.{Condition, Conditions, condition_of, Sam
 use Rattle.easl_model.specs.Form.{Form}
 use Rattle.easl_model.specs.declared.form.Method.{Method}
 use Rattle.easl_model.specs.declared.form.Reach.{Reach}
+use Rattle.easl_model.proofs.Standing.{item_at}
 use Rattle.easl_heap.specs.Clause.{holds, first_failing}
 use Rattle.easl_heap.specs.Clause as clause
 use Rattle.easl_heap.specs.Heap.{Object, IsObjectOf, get, reached}
@@ -29,11 +30,6 @@ use Rattle.case_model.specs.HeapCases.{HeapsHaveCases, IsState, case_of}
 use Rattle.case_model.specs.TermLists.{HasTerms, clauses_of, first_variable, term_of, terms_of_condition, terms_of_conditions, terms_of_cube, terms_of_tree}
 use Rattle.case_model.proofs.Numbers.{all_met, are_numbered, length-numbers, number_at, one_object}
 use Rattle.case_model.proofs.Terms.{found_at, leads_to, object_of-field}
-
-item_at : {X : Type 0} (xs : List X) (i : ℕ) → i < length xs → (x : X) × (slice_get xs i ≡ Some x)
-item_at [] i h = absurd (omega arith)
-item_at (x ∷ xs) zero h = (x, refl)
-item_at (x ∷ xs) (suc i) h = item_at xs i (omega arith)
 
 -- two tests of numbers agree where the equalities do
 tests_agree : (a b c d : ℕ) → (a ≡ b → c ≡ d) → (c ≡ d → a ≡ b) → (a == b) ≡ (c == d)

@@ -2,3 +2,4 @@ pub mod Cases
 pub mod Numbers
 pub mod Places
 pub mod Terms
+pub mod Clauses

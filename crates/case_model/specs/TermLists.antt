@@ -1,14 +1,18 @@
 -- The terms of a question, in a list with their classes.
-use Rattle.std.specs.Prelude.{◌≡◌, ℕ, ◌+◌, ◌↔◌, Bool, List, [], ◌∷◌, ◌++◌, AllPairs, Contains, Option, flat_map, map, if◌then◌else◌}
+use Rattle.std.specs.Prelude.{◌≡◌, ℕ, ◌+◌, ◌↔◌, Bool, List, [], ◌∷◌, ◌++◌, AllPairs, Any, Contains, Option, Some, None, ◌<◌, flat_map, length, slice_get, map, if◌then◌else◌}
 use Rattle.std.specs.List.{AllZip}
 use Rattle.std.specs.declared.cmp.Ordering.TheVariants.{Less}
-use Rattle.easl_model.specs.Conditions.{Condition, Conditions, condition_of, Same, Differ, All, Any, none, ◌▸◌}
+use Rattle.easl_model.specs.Checked.{IsChecked}
+use Rattle.easl_model.specs.Conditions.{Condition, Conditions, condition_of, Same, Differ, All, none, ◌▸◌}
+use Rattle.easl_model.specs.Conditions as condition
 use Rattle.easl_model.specs.Form.{Form}
 use Rattle.easl_model.specs.declared.form.Method.{Method}
 use Rattle.easl_model.specs.declared.form.Reach.{Reach}
 use Rattle.access_paths.specs.Fitting.{IsTermOf}
 use Rattle.access_paths.specs.Terms.{compare_terms, term}
+use Rattle.access_paths.specs.Variables.{family_classes, no_family, variables_of}
 use Rattle.access_paths.specs.Trees.{Tree, Leaf, Ask}
+use Rattle.access_paths.specs.declared.term.Family.{Family}
 use Rattle.access_paths.specs.declared.term.Literal.{Literal}
 use Rattle.access_paths.specs.declared.term.Term.{Term}
 
@@ -60,7 +64,7 @@ abbrev mutual
   terms_of_condition first (Same left right) = term_of first left ∷ term_of first right ∷ []
   terms_of_condition first (Differ left right) = term_of first left ∷ term_of first right ∷ []
   terms_of_condition first (All cs) = terms_of_conditions first cs
-  terms_of_condition first (Any cs) = terms_of_conditions first cs
+  terms_of_condition first (condition.Any cs) = terms_of_conditions first cs
 
   pub terms_of_conditions : ℕ → Conditions → List Term
   terms_of_conditions first none = []
@@ -76,3 +80,21 @@ terms_of_clauses m = flat_map (terms_of_condition (first_variable m)) (clauses_o
 -- what a question asks: its tree, and in an update question the clauses of the method
 abbrev pub terms_asked : Method → Tree → Bool → List Term
 terms_asked m tree with_clauses = terms_of_tree tree ++ (if with_clauses then terms_of_clauses m else [])
+
+-- the classes of a question's variables: of x1 to x3 where it has a family, of `this` and of the parameters
+abbrev pub question_variables : Method → Option Family → List (Option ℕ)
+question_variables m None = variables_of m no_family
+question_variables m (Some family) = variables_of m (family_classes family)
+
+-- each of these terms leads to an object of some class
+abbrev pub AreTyped : Form → List (Option ℕ) → List Term → Type 0
+AreTyped form variables ts = (t : Term) → Contains ts t → (class : ℕ) × IsTermOf form variables t class
+
+-- one of them has more than 6 fields
+abbrev pub HasLongTerm : List Term → Type 0
+HasLongTerm ts = Any (λ t. 6 < length t.fields) ts
+
+-- In a checked specification each term of a method's clauses leads somewhere, whatever x1 to x3 are.
+abbrev pub ClausesHaveClasses : Type 0
+ClausesHaveClasses = (form : Form) (n : ℕ) (m : Method) (xs : List (Option ℕ)) → IsChecked form → slice_get form.methods n ≡ Some m → length xs ≡ 3
+    → AreTyped form (variables_of m xs) (terms_of_clauses m)

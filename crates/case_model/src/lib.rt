@@ -4,4 +4,4 @@
 
 mod laws;
 
-pub use laws::heaps_have_cases;
+pub use laws::{clauses_have_classes, heaps_have_cases};
