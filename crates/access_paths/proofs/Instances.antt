@@ -72,7 +72,7 @@ module _ (c : Cube) (is_cube : IsCube c) (args : List Var) (arguments : (v : Var
       λ there. let P : Literal → Type 0 = Contains (map (renamed (variable_in args)) d.literals) in
           subst P (literal_returns l there)
           (in_map (renamed (variable_in args)) d.literals (renamed (place_of args) l)
-        ((is.literals (renamed (place_of args) l)).1 (in_map (renamed (place_of args)) c.literals l there))),
+          ((is.literals (renamed (place_of args) l)).1 (in_map (renamed (place_of args)) c.literals l there))),
       λ there. let k = of_map (renamed (variable_in args)) d.literals l there in
           let m = of_map (renamed (place_of args)) c.literals k.0 ((is.literals k.0).0 k.1) in
           let same : m.0 ≡ l = sym (literal_returns m.0 m.1) ∙ ap (renamed (variable_in args)) m.2 ∙ k.2 in
