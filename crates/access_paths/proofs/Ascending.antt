@@ -33,7 +33,8 @@ less_than_rest l (k ∷ ls) up m is =
     ]
 
 -- the heads of lists with the same members are one
-same_heads : (l : Literal) (ls : List Literal) (m : Literal) (ms : List Literal) → Ascend (l ∷ ls) → Ascend (m ∷ ms) → Contains (m ∷ ms) l → Contains (l ∷ ls) m → l ≡ m
+same_heads : (l : Literal) (ls : List Literal) (m : Literal) (ms : List Literal) → Ascend (l ∷ ls) → Ascend (m ∷ ms)
+    → Contains (m ∷ ms) l → Contains (l ∷ ls) m → l ≡ m
 same_heads l ls m ms up other_up l_there m_there =
     elim (which_member m ms l l_there) [
       | inl same ↦ sym same
@@ -44,7 +45,8 @@ same_heads l ls m ms up other_up l_there m_there =
     ]
 
 -- a member of the tail is one of the other tail
-tails_hold : (l : Literal) (ls : List Literal) (m : Literal) (ms : List Literal) → Ascend (l ∷ ls) → l ≡ m → (k : Literal) → Contains ls k → Contains (m ∷ ms) k → Contains ms k
+tails_hold : (l : Literal) (ls : List Literal) (m : Literal) (ms : List Literal) → Ascend (l ∷ ls) → l ≡ m
+    → (k : Literal) → Contains ls k → Contains (m ∷ ms) k → Contains ms k
 tails_hold l ls m ms up same k is there =
     elim (which_member m ms k there) [
       | inl first ↦ absurd (not_less_itself l k (same ∙ first) (less_than_rest l ls up k is))
@@ -66,7 +68,8 @@ same_ascending (l ∷ ls) (m ∷ ms) up other_up same =
     )))
 
 -- one before the first
-cons_ascends : (l m : Literal) (ls : List Literal) (n : ℕ) → Ascend (m ∷ ls) → n ≤ length ls → compare_literals m l ≡ Less → Ascend (take n ls ++ l ∷ drop n ls) → Ascend (m ∷ (take n ls ++ l ∷ drop n ls))
+cons_ascends : (l m : Literal) (ls : List Literal) (n : ℕ) → Ascend (m ∷ ls) → n ≤ length ls → compare_literals m l ≡ Less
+    → Ascend (take n ls ++ l ∷ drop n ls) → Ascend (m ∷ (take n ls ++ l ∷ drop n ls))
 cons_ascends l m ls zero up within less rest = (less, rest)
 cons_ascends l m [] (suc n) up within less rest = absurd (omega arith)
 cons_ascends l m (k ∷ ls) (suc n) up within less rest = (up.0, rest)

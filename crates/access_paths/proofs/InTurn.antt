@@ -30,12 +30,14 @@ module _ {X : Type 0} (R : X → X → Ordering) where
   pub slice_cmp_longer : (xs ys : List X) (k : ℕ) → k < length xs → slice_get ys k ≡ None → slice_cmp R (drop k xs) (drop k ys) ≡ Greater
   slice_cmp_longer [] ys k in_xs none = absurd (omega arith)
   slice_cmp_longer (x ∷ xs) [] zero in_xs none = refl
-  slice_cmp_longer (x ∷ xs) [] (suc k) in_xs none = ap (slice_cmp R (drop k xs)) (sym (drop-nil k)) ∙ slice_cmp_longer xs [] k (omega arith) (slice_get_past [] k (omega arith))
+  slice_cmp_longer (x ∷ xs) [] (suc k) in_xs none =
+      ap (slice_cmp R (drop k xs)) (sym (drop-nil k)) ∙ slice_cmp_longer xs [] k (omega arith) (slice_get_past [] k (omega arith))
   slice_cmp_longer (x ∷ xs) (y ∷ ys) zero in_xs none = cc
   slice_cmp_longer (x ∷ xs) (y ∷ ys) (suc k) in_xs none = slice_cmp_longer xs ys k (omega arith) none
 
   -- the first list has ended
-  pub slice_cmp_ended : (xs ys : List X) (k : ℕ) → length xs ≤ k → k ≤ length xs → k ≤ length ys → slice_cmp R (drop k xs) (drop k ys) ≡ nat_cmp (length xs) (length ys)
+  pub slice_cmp_ended : (xs ys : List X) (k : ℕ) → length xs ≤ k → k ≤ length xs → k ≤ length ys
+      → slice_cmp R (drop k xs) (drop k ys) ≡ nat_cmp (length xs) (length ys)
   slice_cmp_ended [] [] zero up down within = refl
   slice_cmp_ended [] (y ∷ ys) zero up down within = grind arith
   slice_cmp_ended [] ys (suc k) up down within = absurd (omega arith)

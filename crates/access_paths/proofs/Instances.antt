@@ -71,7 +71,8 @@ module _ (c : Cube) (is_cube : IsCube c) (args : List Var) (arguments : (v : Var
     literals = λ l. (
       λ there. let P : Literal → Type 0 = Contains (map (renamed (variable_in args)) d.literals) in
           subst P (literal_returns l there)
-          (in_map (renamed (variable_in args)) d.literals (renamed (place_of args) l) ((is.literals (renamed (place_of args) l)).1 (in_map (renamed (place_of args)) c.literals l there))),
+          (in_map (renamed (variable_in args)) d.literals (renamed (place_of args) l)
+          ((is.literals (renamed (place_of args) l)).1 (in_map (renamed (place_of args)) c.literals l there))),
       λ there. let k = of_map (renamed (variable_in args)) d.literals l there in
           let m = of_map (renamed (place_of args)) c.literals k.0 ((is.literals k.0).0 k.1) in
           let same : m.0 ≡ l = sym (literal_returns m.0 m.1) ∙ ap (renamed (variable_in args)) m.2 ∙ k.2 in
@@ -84,7 +85,8 @@ pub family_returns : FamilyReturns
 family_returns c of i is_cube is = comes_back c is_cube i.args is.arguments i.family.cube is.cube
 
 -- the variables of a renamed literal are new ones of its own
-renamed_variable : (other : ℕ → ℕ) (l : Literal) (v : ℕ) → ((renamed other l).less.var.0 ≡ v) ⊎ ((renamed other l).more.var.0 ≡ v) → (other l.less.var.0 ≡ v) ⊎ (other l.more.var.0 ≡ v)
+renamed_variable : (other : ℕ → ℕ) (l : Literal) (v : ℕ) → ((renamed other l).less.var.0 ≡ v) ⊎ ((renamed other l).more.var.0 ≡ v)
+    → (other l.less.var.0 ≡ v) ⊎ (other l.more.var.0 ≡ v)
 renamed_variable other l v is = by_order (is_gt (compare_terms (renamed_term other l.less) (renamed_term other l.more))) is
   where
     by_order : (b : Bool) → let m : Literal = (if b then record { same = l.same; less = renamed_term other l.more; more = renamed_term other l.less } else record { same = l.same; less = renamed_term other l.less; more = renamed_term other l.more }) in
@@ -105,7 +107,8 @@ variable_from other c d v is has =
     ]
 
 -- an argument's object stands at the argument's place
-object_at_place : (objects : List ℕ) (args : List Var) (v w : ℕ) → slice_get args v ≡ Some (var w) → slice_index objects (variable_in args v) ≡ slice_index (map (λ a. slice_index objects a.0) args) v
+object_at_place : (objects : List ℕ) (args : List Var) (v w : ℕ) → slice_get args v ≡ Some (var w)
+    → slice_index objects (variable_in args v) ≡ slice_index (map (λ a. slice_index objects a.0) args) v
 object_at_place objects args v w at =
     ap (λ o. slice_index objects (option_map_or (λ (a : Var). a.0) o 0)) at
     ∙ ap (λ (a : Var). slice_index objects a.0) (sym (get_or_from_slice_get args v (var w) (var w) at))

@@ -14,7 +14,7 @@ use Rattle.access_paths.proofs.Permuted.{all_orders, each_order}
 use Rattle.access_paths.proofs.Substituted.{all_members}
 use Rattle.access_paths.proofs.Variables.{few_variables, variables_listed}
 use Rattle.access_paths.specs.Arguments.{AreArguments, HasKnownVariables, IsLeastAmong, orders, var, variables}
-use Rattle.access_paths.specs.Families.{HasVariable, IsFamilyOf, IsInstance, compare_instances}
+use Rattle.access_paths.specs.Families.{IsFamilyOf, IsInstance, compare_instances}
 use Rattle.access_paths.specs.declared.term.Cube.{Cube}
 use Rattle.access_paths.specs.declared.term.Instance.{Instance}
 use Rattle.access_paths.specs.declared.term.Var.{Var}
@@ -62,7 +62,8 @@ module _ (c : Cube) (of : List ℕ) where
           let clash : true ≡ false = sym (ap is_lt less) ∙ not_less in
           cc)
 
-  pub least_of_all : (lists : List (List Var)) (k : ℕ) (i : Instance) → length lists ≤ k → k ≤ length lists → IsLeastAmong c of (take k lists) i → IsLeastAmong c of lists i
+  pub least_of_all : (lists : List (List Var)) (k : ℕ) (i : Instance) → length lists ≤ k → k ≤ length lists
+      → IsLeastAmong c of (take k lists) i → IsLeastAmong c of lists i
   least_of_all lists k i up down is =
       let end : k ≡ length lists = omega arith in
       let P : List (List Var) → Type 0 = λ ls. IsLeastAmong c of ls i in

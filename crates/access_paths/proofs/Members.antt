@@ -32,7 +32,8 @@ in_map_at f (y ∷ xs) x (suc k) within at = tail_member (f y) (map f xs) (f x) 
 pub in_map : {X Y : Type 0} (f : X → Y) (xs : List X) (x : X) → Contains xs x → Contains (map f xs) (f x)
 in_map f xs x is = in_map_at f xs x is.0 is.1 is.2
 
-of_map_at : {X Y : Type 0} (f : X → Y) (xs : List X) (y : Y) (k : ℕ) → k < length (map f xs) → slice_index_or (map f xs) k y ≡ y → (x : X) × Contains xs x × (f x ≡ y)
+of_map_at : {X Y : Type 0} (f : X → Y) (xs : List X) (y : Y) (k : ℕ) → k < length (map f xs) → slice_index_or (map f xs) k y ≡ y
+    → (x : X) × Contains xs x × (f x ≡ y)
 of_map_at f [] y k within at = absurd (omega arith)
 of_map_at f (x ∷ xs) y zero within at = (x, head_member x xs, at)
 of_map_at f (x ∷ xs) y (suc k) within at = let rest = of_map_at f xs y k (omega arith) at in (rest.0, tail_member x xs rest.0 rest.1, rest.2)
@@ -49,7 +50,8 @@ head_apart x xs apart is = apart 0 (suc is.0) x (omega arith) (omega (arith, is.
 pub tail_distinct : {X : Type 0} (x : X) (xs : List X) → Distinct (x ∷ xs) → Distinct xs
 tail_distinct x xs apart i j d less within = apart (suc i) (suc j) d (omega arith) (omega arith)
 
-cons_apart : {X : Type 0} (x : X) (xs : List X) → (Contains xs x → ⊥) → Distinct xs → (i j : ℕ) (d : X) → i < j → j < length (x ∷ xs) → slice_index_or (x ∷ xs) i d ≢ slice_index_or (x ∷ xs) j d
+cons_apart : {X : Type 0} (x : X) (xs : List X) → (Contains xs x → ⊥) → Distinct xs → (i j : ℕ) (d : X) → i < j → j < length (x ∷ xs)
+    → slice_index_or (x ∷ xs) i d ≢ slice_index_or (x ∷ xs) j d
 cons_apart x xs new apart i zero d less within = absurd (omega arith)
 cons_apart x xs new apart zero (suc j) d less within = λ same. new (j, omega arith, index_same xs j d x (omega arith) ∙ sym same)
   where

@@ -70,5 +70,6 @@ module _ (there back : ℕ → ℕ) where
   -- a literal is renamed there and back
   pub literal_back : (l : Literal) → IsLiteral l → Returns l.less → Returns l.more → renamed back (renamed there l) ≡ l
   literal_back l is less more =
-      turned_back l.same l.less l.more (renamed_term there l.less) (renamed_term there l.more) (is_gt (compare_terms (renamed_term there l.less) (renamed_term there l.more)))
+      turned_back l.same l.less l.more (renamed_term there l.less) (renamed_term there l.more)
+      (is_gt (compare_terms (renamed_term there l.less) (renamed_term there l.more)))
       (term_back l.less less) (term_back l.more more) is

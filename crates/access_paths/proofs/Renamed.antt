@@ -1,5 +1,5 @@
 -- A renaming keeps truth.
-use Rattle.std.proofs.Common.{inl, inr, ◌≡◌, ℕ, zero, suc, ◌<◌, ◌==◌, ◌&&◌, Bool, true, false, not, if◌then◌else◌, List, [], ◌∷◌, length, map, fold, slice_index, slice_index_or, Contains, arith, refl, ap, ap₂, sym, ◌∙◌}
+use Rattle.std.proofs.Common.{inl, inr, ◌≡◌, ℕ, zero, suc, ◌<◌, ◌==◌, ◌&&◌, Bool, true, false, not, if◌then◌else◌, List, [], ◌∷◌, length, fold, slice_index, slice_index_or, Contains, arith, refl, ap, ap₂, sym, ◌∙◌}
 use Rattle.std.specs.Cmp.{first_so, nat_eq_equiv, second_so}
 use Rattle.std.specs.List.{list_all}
 use Rattle.std.specs.Ordering.{is_gt}

@@ -31,7 +31,8 @@ has_more c ls k l is within at =
 pub all_members : {X : Type 0} (P : X → Type 0) (xs : List X) → ((x : X) → Contains xs x → P x) → All P xs
 all_members P xs each = λ k d within. each (get_or xs k d) (Contains-get_or xs k d within)
 
-in_order : (same : Bool) (t u : Term) (o : Ordering) → o ≡ compare_terms t u → t ≢ u → IsLiteral (if is_gt o then record { same = same; less = u; more = t } else record { same = same; less = t; more = u })
+in_order : (same : Bool) (t u : Term) (o : Ordering) → o ≡ compare_terms t u → t ≢ u
+    → IsLiteral (if is_gt o then record { same = same; less = u; more = t } else record { same = same; less = t; more = u })
 in_order same t u Less is apart = sym is
 in_order same t u Equal is apart = absurd (apart (terms_exact t u (sym is)))
 in_order same t u Greater is apart = terms_total.antisymm u t ∙ ap ordering_reverse (sym is)

@@ -29,7 +29,8 @@ use Rattle.access_paths.specs.declared.term.Var.{Var}
 
 -- what a filter keeps
 module _ {X : Type 0} (p : X → Bool) where
-  kept : (y : X) (xs : List X) (x : X) (b : Bool) → p y ≡ b → p x ≡ true → (y ≡ x) ⊎ Contains (filter p xs) x → Contains (cond b (y ∷ filter p xs) (filter p xs)) x
+  kept : (y : X) (xs : List X) (x : X) (b : Bool) → p y ≡ b → p x ≡ true → (y ≡ x) ⊎ Contains (filter p xs) x
+      → Contains (cond b (y ∷ filter p xs) (filter p xs)) x
   kept y xs x true at passes (inl same) = (0, omega arith, same)
   kept y xs x true at passes (inr after) = tail_member y (filter p xs) x after
   kept y xs x false at passes (inl same) = let clash : true ≡ false = sym passes ∙ ap p (sym same) ∙ at in cc
@@ -40,7 +41,8 @@ module _ {X : Type 0} (p : X → Bool) where
   in_filter (y ∷ xs) x is passes =
       kept y xs x (p y) refl passes (elim (which_member y xs x is) [ inl same ↦ inl same | inr after ↦ inr (in_filter xs x after passes) ])
 
-  kept_from : (y : X) (xs : List X) (x : X) (b : Bool) → p y ≡ b → Contains (cond b (y ∷ filter p xs) (filter p xs)) x → ((y ≡ x) × (p x ≡ true)) ⊎ Contains (filter p xs) x
+  kept_from : (y : X) (xs : List X) (x : X) (b : Bool) → p y ≡ b → Contains (cond b (y ∷ filter p xs) (filter p xs)) x
+      → ((y ≡ x) × (p x ≡ true)) ⊎ Contains (filter p xs) x
   kept_from y xs x true at is = elim (which_member y (filter p xs) x is) [ inl same ↦ inl (same, ap p (sym same) ∙ at) | inr after ↦ inr after ]
   kept_from y xs x false at is = inr is
 
