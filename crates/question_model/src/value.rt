@@ -14,6 +14,7 @@ pub enum Value {
 impl Value {
     ghost use Rattle.std.specs.Prelude.{◌≡◌, IfOk};
 
+    /// The same value again.
     pub fn twin(&self, alloc: Global) -> Result<Value, AllocError>
         ensures { IfOk result (λ v. v ≡ self.now) }
     {
@@ -25,7 +26,7 @@ impl Value {
     }
 }
 
-/// The field at this position was written, of an object of this class.
+/// A field was written: of the owner, an object of this class, the one at this position, and what it holds since.
 #[derive(Debug, Drop)]
 pub struct Write {
     pub class: u32,

@@ -46,7 +46,8 @@ fn push(
     }
 }
 
-/// The tree of the question behind these answers, which are the same afterwards. So deep a tree finds no memory.
+/// The tree of the question behind these answers, which are the same afterwards. A tree that is not less deep than
+/// `depth` is want of memory.
 #[tactic(auto, using(question_model::proofs::TreeLaws::long_on, question_model::proofs::TreeLaws::long_here, crate::proofs::Splitting::taken_back))]
 fn grow_behind<Q: Question>(
     alloc: Global,

@@ -69,10 +69,7 @@ fn family_value(
     if bits % 2 == 1 {
         return given.twin(alloc);
     }
-    let class = match family.classes.as_slice().get(number as usize) {
-        Some(class) => Some(*class),
-        None => None,
-    };
+    let class = family.classes.as_slice().get(number as usize).copied();
     Ok(variable(alloc, number, class))
 }
 

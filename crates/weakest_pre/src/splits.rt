@@ -77,7 +77,8 @@ impl Question for Falsity<'_> {
 }
 
 /// The tree that tells whether the family's cube is true after the method. `results` has bit k set where x(k+1) stands
-/// for the call's result. `Path` exactly where a term of 7 fields arises.
+/// for the call's result. `Path` comes exactly where a term of 7 fields arises on some branch, `Memory` where memory was
+/// wanted and not found.
 pub fn split(
     alloc: Global,
     spec: &CheckedSpec,
@@ -110,8 +111,8 @@ fn clause_at(method: &Method, clause: u32) -> &Test
     &method.clauses.as_slice()[clause as usize - 1]
 }
 
-/// The tree that tells whether the clause is false; clauses are counted from 1. `Path` exactly where a term of 7 fields
-/// arises.
+/// The tree that tells whether the clause is false before the call; clauses are counted from 1. `Path` comes exactly where
+/// a term of 7 fields arises on some branch, `Memory` where memory was wanted and not found.
 pub fn split_clause(
     alloc: Global,
     spec: &CheckedSpec,
