@@ -6,3 +6,6 @@ pub mod Lists
 pub mod Open
 pub mod Whole
 pub mod Turns
+pub mod Gathered
+pub mod OfTests
+pub mod Plain

@@ -1,2 +1,4 @@
+pub mod Gathering
 pub mod Levels
+pub mod Short
 pub mod Steps

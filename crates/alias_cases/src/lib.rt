@@ -2,7 +2,9 @@
 #![tactic(auto)]
 
 mod case;
+mod clauses;
 mod fitting;
+mod gathering;
 mod listing;
 mod steps;
 
