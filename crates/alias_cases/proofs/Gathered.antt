@@ -73,7 +73,7 @@ cut (y ∷ ps) (x ∷ ts) f more e =
     (λ (h : (m : List ℕ) × (ps ≡ ts ++ m)). inr (h.0, λ i. first i ∷ h.1 i))
     (cut ps ts f more others)
 
-itself : (t : Term) → IsPrefix t t
+pub itself : (t : Term) → IsPrefix t t
 itself t = (refl, ([], sym (append-nil t.fields)))
 
 -- the prefixes of a term with one field more are it and those of the term

@@ -9,3 +9,6 @@ pub mod Turns
 pub mod Gathered
 pub mod OfTests
 pub mod Plain
+pub mod Long
+pub mod Typed
+pub mod Asked

@@ -1,3 +1,4 @@
+pub mod Classes
 pub mod Gathering
 pub mod Levels
 pub mod Short
