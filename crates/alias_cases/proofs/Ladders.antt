@@ -1,33 +1,27 @@
 -- The steps of a term list, and its configurations by them.
-use Rattle.std.proofs.Common.{◌≡◌, ℕ, zero, suc, ◌+◌, ◌<◌, ◌≤◌, List, [], ◌∷◌, ◌++◌, length, true, ◌==◌, ◌&&◌, nat_eq, eqb-true, eq-eqb, All, Contains, AllPairs, Option, Some, None, slice_index, arith, refl, ap, sym, subst, ◌∙◌, inl, inr, ⊎_elim, append_assoc, length-append}
+use Rattle.std.proofs.Common.{◌≡◌, ℕ, ◌<◌, List, [], ◌∷◌, ◌++◌, length, true, ◌==◌, ◌&&◌, nat_eq, eqb-true, eq-eqb, All, Contains, AllPairs, Option, Some, None, slice_index, arith, refl, ap, sym, subst, ◌∙◌, ⊎_elim, append_assoc, length-append}
 use Rattle.std.specs.Prelude.{◌⊎◌, ◌≢◌, slice_get}
-use Rattle.std.specs.List.{AllZip}
 use Rattle.std.specs.Cmp.Lexicographic.{bytes_decides, pointwise, slice_cmp}
 use Rattle.std.specs.Ordering.{nat_cmp, ordering_reverse, ordering_then}
-use Rattle.std.specs.declared.cmp.Ordering.TheVariants.{Less, Equal, Greater}
+use Rattle.std.specs.declared.cmp.Ordering.TheVariants.{Less, Greater}
 use Rattle.std.specs.Cmp.{nat_cmp_is}
 use Rattle.std.proofs.lemmas.Bool.{and_from, and_parts, cases_order}
 use Rattle.std.proofs.lemmas.Cmp.{tied_itself}
-use Rattle.std.proofs.lemmas.Option.{get_or_from_slice_get, slice_get_within, slice_get-get_or}
+use Rattle.std.proofs.lemmas.Option.{get_or_from_slice_get, slice_get_within}
 use Rattle.std.proofs.lemmas.Slice.Zip.{AllZip-long}
 use Rattle.easl_model.specs.Form.{Form, fields_of}
+use Rattle.easl_model.proofs.FormsInRange.{zip_at}
 use Rattle.easl_heap.specs.Full.{FieldsLead}
 use Rattle.easl_heap.proofs.FormFields.{zip_from}
 use Rattle.access_paths.specs.Fitting.{IsTermOf}
 use Rattle.access_paths.specs.Terms.{compare_terms, field, term}
 use Rattle.access_paths.specs.declared.term.Term.{Term}
 use Rattle.access_paths.proofs.Orders.{terms_total}
-use Rattle.case_model.specs.Configurations.{IsConfiguration, Joined}
-use Rattle.case_model.specs.TermLists.{AreTermsOf, IsTermList}
+use Rattle.case_model.specs.Configurations.{IsConfiguration}
+use Rattle.case_model.specs.TermLists.{IsTermList}
 use Rattle.alias_cases.specs.Steps.{AreSteps, IsClosed, IsStepTo}
 use Rattle.alias_cases.specs.declared.steps.Step.{Step}
 use Rattle.alias_cases.proofs.Arranged.{IsArranged, IsLadder}
-
-pub zip_back : {A B : Type 0} (R : A → B → Type 0) (xs : List A) (ys : List B) (k : ℕ) (y : B) → AllZip R xs ys → slice_get ys k ≡ Some y → (x : A) × (slice_get xs k ≡ Some x) × R x y
-zip_back R xs [] k y zip at = absurd (cc)
-zip_back R [] (z ∷ ys) k y zip at = absurd zip
-zip_back R (x ∷ xs) (z ∷ ys) zero y zip at = (x, refl, subst (λ b. R x b) (let e : z ≡ y = cc in e) zip.0)
-zip_back R (x ∷ xs) (z ∷ ys) (suc k) y zip at = zip_back R xs ys k y zip.1 at
 
 parted : (xs ys : List ℕ) (a b : ℕ) → xs ++ a ∷ [] ≡ ys ++ b ∷ [] → (xs ≡ ys) × (a ≡ b)
 parted [] [] a b e = (refl, cc)
@@ -144,7 +138,7 @@ module _ (ts : List Term) (classes : List ℕ) (is : IsTermList ts classes) (ste
 
   step_from : (k : ℕ) (s : Step) → slice_get steps k ≡ Some (Some s) → From k s
   step_from k s at =
-      let t = zip_back (IsStepTo ts) ts steps k (Some s) are at in
+      let t = zip_at (IsStepTo ts) ts steps k (Some s) are at in
       record { shorter = t.2.0; at = t.2.1; longer_at = t.1 ∙ ap Some t.2.2 }
 
   -- the step to a term that has a field
