@@ -1,0 +1,4 @@
+pub mod Chosen
+pub mod Literals
+pub mod Rows
+pub mod Table
