@@ -1,6 +1,6 @@
 -- Questions in the order of asking: all clauses by method; then for each family all methods, with each set of result positions.
-use Rattle.std.specs.Prelude.{ℕ, suc, ◌+◌, ◌/◌, ◌%◌, Bool, true, false, not, ◌==◌, ◌&&◌, ◌||◌, List, [], ◌∷◌, ◌++◌, Option, Some, None, if◌then◌else◌, length, map}
-use Rattle.std.specs.List.{filter, flat_map, range_with_len}
+use Rattle.std.specs.Prelude.{ℕ, suc, ◌/◌, ◌%◌, Bool, true, false, not, ◌==◌, ◌&&◌, ◌||◌, List, [], ◌∷◌, ◌++◌, Option, Some, None, if◌then◌else◌, length, map}
+use Rattle.std.specs.List.{filter, range_with_len}
 use Rattle.std.specs.Option.{option_map_or}
 use Rattle.easl_model.specs.Form.{Form}
 use Rattle.easl_model.specs.declared.form.Method.{Method}
@@ -31,9 +31,13 @@ abbrev pub so_at : ℕ → List Bool → Bool
 so_at positions [] = true
 so_at positions (b ∷ bs) = (not (positions % 2 == 1) || b) && so_at (positions / 2) bs
 
+-- whether the result may stand at these positions of the family
+abbrev pub may_stand : Method → Family → ℕ → Bool
+may_stand m family results = so_at results (map (gives m) (family_classes family))
+
 -- the sets of result positions, as numbers with their bits, in order; the empty one is 0
 abbrev pub result_sets : Method → Family → List ℕ
-result_sets m family = filter (λ results. so_at results (map (gives m) (family_classes family))) (range_with_len 0 8)
+result_sets m family = filter (may_stand m family) (range_with_len 0 8)
 
 -- the update questions of a family, by methods that are numbered from here on
 abbrev pub updates_by : ℕ → Family → ℕ → List Method → List Question

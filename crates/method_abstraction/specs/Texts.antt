@@ -1,7 +1,6 @@
 -- The text of an abstraction.
-use Rattle.std.specs.Prelude.{ℕ, suc, ◌+◌, ◌-◌, ◌/◌, ◌%◌, Bool, true, false, ◌==◌, ◌&&◌, List, [], ◌∷◌, ◌++◌, Option, Some, None, if◌then◌else◌, codes, decimal, encode_utf8_all, length, map, nat_lt, slice_get, slice_index}
-use Rattle.std.specs.Cmp.Lexicographic.{pointwise}
-use Rattle.std.specs.List.{flat_map, range_with_len}
+use Rattle.std.specs.Prelude.{ℕ, suc, ◌+◌, ◌-◌, ◌/◌, ◌%◌, Bool, true, false, ◌==◌, ◌&&◌, List, [], ◌∷◌, ◌++◌, if◌then◌else◌, codes, decimal, encode_utf8_all, length, map, nat_lt, slice_get, slice_index}
+use Rattle.std.specs.List.{flat_map, list_any}
 use Rattle.std.specs.Option.{option_map, option_map_or, unwrap_or}
 use Rattle.easl_model.specs.Form.{Form, field_names_of, fields_of}
 use Rattle.access_paths.specs.declared.term.Family.{Family}
@@ -61,13 +60,29 @@ abbrev pub families_text : Form → ℕ → List Family → List ℕ
 families_text form n [] = []
 families_text form n (family ∷ rest) = family_name n ++ (codes " " ++ (family_text form family ++ (codes "\n" ++ families_text form (suc n) rest)))
 
+abbrev pub names_text : List Var → List ℕ
+names_text vars = joined (codes ", ") (map (λ v. variable_text v.0) vars)
+
+-- a family with the variables that stand for its own
+abbrev pub instance_text : ℕ → List Var → List ℕ
+instance_text number vars = family_name number ++ (codes "(" ++ (names_text vars ++ codes ")"))
+
 abbrev pub disjunct_text : Disjunct → List ℕ
 disjunct_text Always = codes "always"
-disjunct_text (Of number vars) = family_name number ++ (codes "(" ++ (joined (codes ", ") (map (λ v. variable_text v.0) vars) ++ codes ")"))
+disjunct_text (Of number vars) = instance_text number vars
 
+abbrev pub is_always : Disjunct → Bool
+is_always Always = true
+is_always (Of number vars) = false
+
+-- `always` among others stands alone
 abbrev pub facts_text : List Disjunct → List ℕ
-facts_text [] = codes "never"
-facts_text (d ∷ ds) = joined (codes " or ") (map disjunct_text (d ∷ ds))
+facts_text ds =
+    if length ds == 0
+    then codes "never"
+    else if list_any is_always ds
+    then codes "always"
+    else joined (codes " or ") (map disjunct_text ds)
 
 -- a method, or `C.new`
 abbrev pub method_text : Form → ℕ → List ℕ
@@ -77,37 +92,53 @@ method_text form method =
     (slice_get form.methods method)
     []
 
+abbrev pub var : ℕ → Var
+var number = record { 0 = number }
+
 -- of these variables those at whose positions a bit is set
-abbrev pub chosen_of : ℕ → List ℕ → List ℕ
+abbrev pub chosen_of : ℕ → List Var → List Var
 chosen_of positions [] = []
-chosen_of positions (n ∷ ns) = (if positions % 2 == 1 then n ∷ [] else []) ++ chosen_of (positions / 2) ns
+chosen_of positions (v ∷ vs) = (if positions % 2 == 1 then v ∷ [] else []) ++ chosen_of (positions / 2) vs
+
+abbrev pub chosen_variables : ℕ → List Var
+chosen_variables results = chosen_of results (var 0 ∷ var 1 ∷ var 2 ∷ [])
 
 abbrev pub results_text : ℕ → List ℕ
-results_text results = codes "{" ++ (joined (codes ", ") (map variable_text (chosen_of results (0 ∷ 1 ∷ 2 ∷ []))) ++ codes "}")
+results_text results = codes "{" ++ (names_text (chosen_variables results) ++ codes "}")
 
 abbrev pub clause_line : Form → ClauseFacts → List ℕ
 clause_line form e =
     method_text form e.method ++ (codes " " ++ (decimal e.clause ++ (codes ": " ++ (facts_text e.disjuncts ++ codes "\n"))))
 
--- whether an update leaves the family as it is: with no result its only disjunct is the family itself
+-- the variables are those from number n on
+abbrev pub are_in_order : ℕ → List Var → Bool
+are_in_order n [] = true
+are_in_order n (v ∷ vs) = (v.0 == n) && are_in_order (suc n) vs
+
+-- the family of this number itself, which has so many variables
 abbrev pub is_itself : ℕ → ℕ → Disjunct → Bool
 is_itself number count Always = false
-is_itself number count (Of other vars) = (other == number) && pointwise (λ v n. v.0 == n) vars (range_with_len 0 count)
+is_itself number count (Of other vars) = (other == number) && ((length vars == count) && are_in_order 0 vars)
 
-abbrev pub only_itself : ℕ → ℕ → List Disjunct → Bool
-only_itself number count [] = false
-only_itself number count (d ∷ []) = is_itself number count d
-only_itself number count (d ∷ e ∷ ds) = false
+abbrev pub is_only_itself : ℕ → ℕ → List Disjunct → Bool
+is_only_itself number count [] = false
+is_only_itself number count (d ∷ []) = is_itself number count d
+is_only_itself number count (d ∷ e ∷ ds) = false
 
+-- an update that leaves its family as it is: there is no result, and its only disjunct is the family itself
 abbrev pub is_left_out : List Family → Update → Bool
 is_left_out families e =
-    (e.results == 0) && only_itself e.family (option_map_or (λ f. length f.classes) (slice_get families e.family) 0) e.disjuncts
+    (e.results == 0) && is_only_itself e.family (option_map_or (λ f. length f.classes) (slice_get families e.family) 0) e.disjuncts
+
+-- the question that an update answers
+abbrev pub asked_text : Form → Update → List ℕ
+asked_text form e = method_text form e.method ++ (codes " " ++ (results_text e.results ++ (codes " " ++ family_name e.family)))
+
+abbrev pub written_line : Form → Update → List ℕ
+written_line form e = asked_text form e ++ (codes ": " ++ (facts_text e.disjuncts ++ codes "\n"))
 
 abbrev pub update_line : Form → List Family → Update → List ℕ
-update_line form families e =
-    if is_left_out families e
-    then []
-    else method_text form e.method ++ (codes " " ++ (results_text e.results ++ (codes " " ++ (family_name e.family ++ (codes ": " ++ (facts_text e.disjuncts ++ codes "\n"))))))
+update_line form families e = if is_left_out families e then [] else written_line form e
 
 abbrev pub abstraction_text : Form → Abstraction → List ℕ
 abstraction_text form a =
