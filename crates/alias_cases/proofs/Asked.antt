@@ -1,9 +1,8 @@
 -- The terms of a method's clauses, as they are asked.
-use Rattle.std.proofs.Common.{◌≡◌, ℕ, Bool, true, false, cond, if◌then◌else◌, List, [], map, flat_map, arith, refl, ap, sym, subst, ◌∙◌}
+use Rattle.std.proofs.Common.{◌≡◌, Bool, true, false, cond, if◌then◌else◌, [], map, flat_map, arith, ap, sym, subst, ◌∙◌}
 use Rattle.std.specs.Bool.{OnFalse, OnTrue}
 use Rattle.easl_model.specs.Conditions.{condition_of, conditions}
 use Rattle.easl_model.specs.declared.form.Method.{Method}
-use Rattle.access_paths.specs.declared.term.Term.{Term}
 use Rattle.case_model.specs.TermLists.{AreTermsOf, HasLongTerm, terms_of_clauses, terms_of_condition}
 use Rattle.alias_cases.specs.Short.{are_short}
 use Rattle.alias_cases.proofs.Long.{none_long, some_long}

@@ -1,11 +1,11 @@
 -- A configuration with one term more is one of the first terms, and a block that fits.
-use Rattle.std.proofs.Common.{◌≡◌, ℕ, zero, suc, ◌+◌, ◌<◌, ◌≤◌, Bool, true, false, ◌&&◌, List, [], ◌∷◌, ◌++◌, length, Option, Some, None, slice_index, arith, refl, ap, sym, subst, ◌∙◌, inl, inr, ⊎_elim, eqb-true, eq-eqb, if◌then◌else◌, length-append}
+use Rattle.std.proofs.Common.{◌≡◌, ℕ, zero, suc, ◌<◌, ◌≤◌, Bool, true, false, List, [], ◌∷◌, ◌++◌, length, Option, Some, None, slice_index, arith, refl, ap, sym, subst, ◌∙◌, inl, inr, ⊎_elim, eqb-true, eq-eqb, if◌then◌else◌, length-append}
 use Rattle.std.specs.Prelude.{◌⊎◌, ◌==◌, slice_get}
 use Rattle.std.proofs.Math.ListN.{get_or-append}
 use Rattle.std.proofs.Math.Seq.{get_or-append_seam}
 use Rattle.std.proofs.lemmas.Bool.{and_parts, and_from, cases_eq}
-use Rattle.std.proofs.lemmas.Option.{get_or_from_slice_get, slice_get_within, slice_get-get_or}
-use Rattle.case_model.specs.Configurations.{AreNumbered, Joined}
+use Rattle.std.proofs.lemmas.Option.{get_or_from_slice_get, slice_get_within}
+use Rattle.case_model.specs.Configurations.{Joined}
 use Rattle.alias_cases.specs.Levels.{fitting_blocks, fitting_by, is_alike, led_to, open_blocks}
 use Rattle.alias_cases.specs.declared.steps.Step.{Step}
 use Rattle.alias_cases.proofs.Arranged.{IsArranged, IsLadder, next_number}

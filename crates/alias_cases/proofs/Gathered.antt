@@ -1,7 +1,6 @@
 -- What is gathered are terms with all their prefixes.
-use Rattle.std.proofs.Common.{◌≡◌, ℕ, zero, suc, ◌+◌, ◌<◌, ◌≤◌, List, [], ◌∷◌, ◌++◌, length, take, slice_index, Contains, arith, refl, ap, sym, subst, ◌∙◌, inl, inr, ⊎_elim, append_assoc, append-nil, length-append}
+use Rattle.std.proofs.Common.{◌≡◌, ℕ, ◌+◌, ◌<◌, ◌≤◌, List, [], ◌∷◌, ◌++◌, length, take, slice_index, Contains, arith, refl, ap, sym, subst, ◌∙◌, inl, inr, ⊎_elim, append_assoc, append-nil, length-append}
 use Rattle.std.specs.Prelude.{◌⊎◌}
-use Rattle.std.specs.List.{AllByRecursion}
 use Rattle.std.specs.Ordering.{is_eq, ordering_reverse}
 use Rattle.std.specs.declared.cmp.Ordering.{Ordering}
 use Rattle.std.specs.declared.cmp.Ordering.TheVariants.{Less, Equal, Greater}
@@ -53,12 +52,14 @@ inserted-rises t (u ∷ us) up = by (compare_terms t u) refl (inserted-rises t u
     by Less is rest = ((is, each-from (IsBelow t) us (λ x h. terms_total.trans t u x is (each-in (IsBelow u) us x up.0 h))), up)
     by Equal is rest = up
     by Greater is rest =
-        let below : IsBelow u t = terms_total.antisymm u t ∙ ap ordering_reverse is in
-        (each-from (IsBelow u) (inserted t us) (λ x h.
-          ⊎_elim
-          (λ (e : x ≡ t). subst (IsBelow u) (sym e) below)
-          (λ (i : IsIn x us). each-in (IsBelow u) us x up.0 i)
-          (in-inserted t us x h)), rest)
+        let below : IsBelow u t = terms_total.antisymm u t ∙ ap ordering_reverse is in (
+          each-from (IsBelow u) (inserted t us) (λ x h.
+              ⊎_elim
+              (λ (e : x ≡ t). subst (IsBelow u) (sym e) below)
+              (λ (i : IsIn x us). each-in (IsBelow u) us x up.0 i)
+              (in-inserted t us x h)),
+          rest,
+        )
 
 -- a beginning of a list with one item more is the whole or a beginning of the list
 cut : (ps ts : List ℕ) (f : ℕ) (more : List ℕ) → ps ++ f ∷ [] ≡ ts ++ more → (ts ≡ ps ++ f ∷ []) ⊎ ((m : List ℕ) × (ps ≡ ts ++ m))

@@ -1,14 +1,13 @@
 -- The steps of a term list, and its configurations by them.
-use Rattle.std.proofs.Common.{◌≡◌, ℕ, zero, suc, ◌+◌, ◌<◌, ◌≤◌, List, [], ◌∷◌, ◌++◌, length, true, ◌==◌, ◌&&◌, nat_eq, eqb-true, eq-eqb, All, Contains, AllPairs, Option, Some, None, slice_index, arith, refl, ap, sym, subst, ◌∙◌, inl, inr, ⊎_elim, append_assoc, length-append}
+use Rattle.std.proofs.Common.{◌≡◌, ℕ, ◌<◌, List, [], ◌∷◌, ◌++◌, length, true, ◌==◌, ◌&&◌, nat_eq, eqb-true, eq-eqb, All, Contains, AllPairs, Option, Some, None, slice_index, arith, refl, ap, sym, subst, ◌∙◌, ⊎_elim, append_assoc, length-append}
 use Rattle.std.specs.Prelude.{◌⊎◌, ◌≢◌, slice_get}
-use Rattle.std.specs.List.{AllZip}
 use Rattle.std.specs.Cmp.Lexicographic.{bytes_decides, pointwise, slice_cmp}
 use Rattle.std.specs.Ordering.{nat_cmp, ordering_reverse, ordering_then}
-use Rattle.std.specs.declared.cmp.Ordering.TheVariants.{Less, Equal, Greater}
+use Rattle.std.specs.declared.cmp.Ordering.TheVariants.{Less, Greater}
 use Rattle.std.specs.Cmp.{nat_cmp_is}
 use Rattle.std.proofs.lemmas.Bool.{and_from, and_parts, cases_order}
 use Rattle.std.proofs.lemmas.Cmp.{tied_itself}
-use Rattle.std.proofs.lemmas.Option.{get_or_from_slice_get, slice_get_within, slice_get-get_or}
+use Rattle.std.proofs.lemmas.Option.{get_or_from_slice_get, slice_get_within}
 use Rattle.std.proofs.lemmas.Slice.Zip.{AllZip-long}
 use Rattle.easl_model.specs.Form.{Form, fields_of}
 use Rattle.easl_model.proofs.FormsInRange.{zip_at}
@@ -18,8 +17,8 @@ use Rattle.access_paths.specs.Fitting.{IsTermOf}
 use Rattle.access_paths.specs.Terms.{compare_terms, field, term}
 use Rattle.access_paths.specs.declared.term.Term.{Term}
 use Rattle.access_paths.proofs.Orders.{terms_total}
-use Rattle.case_model.specs.Configurations.{IsConfiguration, Joined}
-use Rattle.case_model.specs.TermLists.{AreTermsOf, IsTermList}
+use Rattle.case_model.specs.Configurations.{IsConfiguration}
+use Rattle.case_model.specs.TermLists.{IsTermList}
 use Rattle.alias_cases.specs.Steps.{AreSteps, IsClosed, IsStepTo}
 use Rattle.alias_cases.specs.declared.steps.Step.{Step}
 use Rattle.alias_cases.proofs.Arranged.{IsArranged, IsLadder}

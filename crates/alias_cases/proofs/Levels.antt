@@ -1,6 +1,6 @@
 -- From the configurations of the first terms to those with one term more.
-use Rattle.std.proofs.Common.{◌≡◌, ℕ, zero, suc, ◌+◌, ◌<◌, ◌≤◌, List, [], ◌∷◌, ◌++◌, length, map, flat_map, Option, Some, slice_index, arith, refl, ap, sym, subst, ◌∙◌, inl, inr, ⊎_elim, length-append}
-use Rattle.std.specs.Prelude.{◌⊎◌, slice_get}
+use Rattle.std.proofs.Common.{◌≡◌, ℕ, suc, ◌<◌, ◌≤◌, List, [], ◌∷◌, ◌++◌, length, flat_map, Option, Some, slice_index, arith, refl, ap, sym, subst, ◌∙◌, inl, inr, ⊎_elim, length-append}
+use Rattle.std.specs.Prelude.{slice_get}
 use Rattle.std.specs.Cmp.Lexicographic.{slice_cmp}
 use Rattle.std.specs.List.{AllByRecursion}
 use Rattle.std.specs.Ordering.{nat_cmp, ordering_then}
@@ -9,8 +9,6 @@ use Rattle.std.specs.declared.cmp.Ordering.TheVariants.{Less, Equal, Greater}
 use Rattle.std.proofs.lemmas.Cmp.{nat_cmp_total, tied_itself}
 use Rattle.std.specs.Cmp.{nat_cmp_is}
 use Rattle.std.proofs.lemmas.List.{length-map}
-use Rattle.std.proofs.lemmas.Map.Lookups.{exact_unsigned}
-use Rattle.case_model.specs.Configurations.{AreNumbered}
 use Rattle.alias_cases.specs.Levels.{extended, fitting_blocks, next_level}
 use Rattle.alias_cases.specs.declared.steps.Step.{Step}
 use Rattle.alias_cases.proofs.Arranged.{IsArranged, IsBefore, IsLadder, IsLevel}

@@ -79,7 +79,7 @@ module _ {X : Type 0} where
   pairs-rises R [] pairs = tt
   pairs-rises R (x ∷ xs) pairs = (
     each-from (R x) xs (λ y h.
-      let has = in-contains xs y h in
-      subst (R x) has.2 (pairs 0 (suc has.0) y (omega arith) (omega (arith, has.1)))),
+        let has = in-contains xs y h in
+        subst (R x) has.2 (pairs 0 (suc has.0) y (omega arith) (omega (arith, has.1)))),
     pairs-rises R xs (λ i j d before within. pairs (suc i) (suc j) d (omega arith) (omega arith)),
   )

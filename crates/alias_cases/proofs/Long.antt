@@ -1,6 +1,5 @@
 -- Terms of clauses that have more than 6 fields.
-use Rattle.std.proofs.Common.{◌≡◌, ℕ, zero, suc, ◌+◌, ◌<◌, ◌≤◌, Bool, true, false, ◌&&◌, List, [], ◌∷◌, ◌++◌, length, Contains, slice_index_or, nat_le, arith, refl, subst, inl, inr, ⊎_elim, sym}
-use Rattle.std.specs.Prelude.{◌⊎◌}
+use Rattle.std.proofs.Common.{◌≡◌, ℕ, zero, suc, ◌<◌, ◌≤◌, true, false, ◌&&◌, List, [], ◌∷◌, ◌++◌, length, Contains, slice_index_or, nat_le, arith, refl, subst, ⊎_elim}
 use Rattle.std.proofs.lemmas.Bool.{and_cases, and_parts, leb-false, leb-true}
 use Rattle.std.proofs.lemmas.List.Elements.{Contains-append_cases, Contains-append_left, Contains-append_right}
 use Rattle.easl_model.specs.Conditions.{Condition, Conditions, Same, Differ, All, Any, none, ◌▸◌}

@@ -22,9 +22,9 @@ pub tests_more : (tests : List Test) (i : ℕ) (test : Test) (a b c : List Term)
 tests_more tests i test a b c within at first second =
     let longer : take (i + 1) tests ≡ take i tests ++ test ∷ [] = take_more tests i test within ∙ ap (λ t. take i tests ++ t ∷ []) (sym at) in
     let same : terms_of_tests (take (i + 1) tests) ≡ terms_of_tests (take i tests) ++ terms_of_condition 3 (condition_of test) =
-        ap terms_of_tests longer
-        ∙ ap (λ cs. terms_of_conditions 3 (conditions cs)) (map-append condition_of (take i tests) (test ∷ []))
-        ∙ push_terms 3 (map condition_of (take i tests)) (condition_of test) in
+    ap terms_of_tests longer
+    ∙ ap (λ cs. terms_of_conditions 3 (conditions cs)) (map-append condition_of (take i tests) (test ∷ []))
+    ∙ push_terms 3 (map condition_of (take i tests)) (condition_of test) in
     subst (λ l. Gathers l a c) (sym same) (gathers-both (terms_of_tests (take i tests)) (terms_of_condition 3 (condition_of test)) a b c first second)
 
 pub clauses_terms : (first : ℕ) (cs : List Condition) → flat_map (terms_of_condition first) cs ≡ terms_of_conditions first (conditions cs)

@@ -1,5 +1,5 @@
 -- Turns of the loops, and their ends.
-use Rattle.std.proofs.Common.{◌≡◌, ℕ, zero, suc, ◌+◌, ◌<◌, ◌≤◌, min, List, [], ◌∷◌, ◌++◌, length, drop, take, flat_map, Contains, Option, Some, None, get_or, slice_index, arith, refl, ap, sym, subst, ◌∙◌, length-append}
+use Rattle.std.proofs.Common.{◌≡◌, ℕ, zero, suc, ◌+◌, ◌<◌, min, List, [], ◌∷◌, ◌++◌, length, drop, take, flat_map, Option, Some, None, get_or, slice_index, arith, refl, ap, sym, subst, ◌∙◌, length-append}
 use Rattle.std.specs.Prelude.{slice_get}
 use Rattle.std.specs.List.{AllZip}
 use Rattle.std.proofs.lemmas.List.Folds.{length-flat_map-take}
@@ -10,7 +10,7 @@ use Rattle.case_model.specs.TermLists.{IsTermList}
 use Rattle.alias_cases.specs.Levels.{led_to, next_level, open_blocks}
 use Rattle.alias_cases.specs.Steps.{AreSteps}
 use Rattle.alias_cases.specs.declared.steps.Step.{Step}
-use Rattle.alias_cases.proofs.Arranged.{IsLadder, IsLevel}
+use Rattle.alias_cases.proofs.Arranged.{IsLevel}
 use Rattle.alias_cases.proofs.Ladders.{as_many_steps, ladder}
 use Rattle.alias_cases.proofs.Levels.{level_next}
 use Rattle.alias_cases.proofs.Whole.{level_many, level_whole}

@@ -1,7 +1,6 @@
 -- The classes of terms that are asked, and of their prefixes.
-use Rattle.std.proofs.Common.{◌≡◌, ℕ, zero, suc, ◌+◌, ◌-◌, ◌<◌, ◌≤◌, Bool, true, false, if◌then◌else◌, List, [], ◌∷◌, ◌++◌, length, map, Contains, Option, Some, None, slice_index, unwrap_or, arith, refl, ap, sym, subst, ◌∙◌, inl, inr}
+use Rattle.std.proofs.Common.{◌≡◌, ℕ, ◌≤◌, Bool, true, false, if◌then◌else◌, List, [], ◌∷◌, ◌++◌, length, map, Contains, Option, Some, None, slice_index, unwrap_or, arith, refl, ap, sym, subst, ◌∙◌, inl, inr}
 use Rattle.std.specs.Prelude.{◌⊎◌, slice_get}
-use Rattle.std.specs.List.{AllZip}
 use Rattle.std.specs.Option.{option_map, option_map_or}
 use Rattle.std.proofs.lemmas.List.Elements.{Contains-append_cases}
 use Rattle.std.proofs.lemmas.Option.{get_or_from_slice_get, slice_get_past}
@@ -18,8 +17,7 @@ use Rattle.access_paths.specs.declared.term.Term.{Term}
 use Rattle.case_model.specs.TermLists.{AreTermsOf, AreTyped, HaveClasses, IsPrefix, question_variables, terms_asked, terms_of_clauses, terms_of_tree}
 use Rattle.case_model.proofs.Clauses.{clauses_have_classes}
 use Rattle.alias_cases.specs.Classes.{class_along, class_of_term, start_class}
-use Rattle.alias_cases.proofs.Gathered.{itself}
-use Rattle.alias_cases.proofs.Lists.{IsIn, each-from, each-in, in-contains}
+use Rattle.alias_cases.proofs.Lists.{IsIn, in-contains}
 
 pub no_fields : (form : Form) (class field : ℕ) → length form.classes ≤ class → 0 ≡ slice_index (fields_of form class) field
 no_fields form class field past = sym (ap (λ o. slice_index (unwrap_or (option_map (λ (c : ClassForm). c.field_classes) o) []) field) (slice_get_past form.classes class past))
@@ -56,8 +54,8 @@ pub have_classes : (form : Form) (variables : List (Option ℕ)) (asked ts : Lis
     → HaveClasses form variables ts (map (class_of_term form variables) ts)
 have_classes form variables asked ts are typed =
     zipped form variables ts (λ t h.
-      let from = (are.holds t).0 (in-contains ts t h) in
-      prefix_typed form variables t from.0 from.2 (typed from.0 from.1))
+    let from = (are.holds t).0 (in-contains ts t h) in
+    prefix_typed form variables t from.0 from.2 (typed from.0 from.1))
 
 asked_typed : (form : Form) (n : ℕ) (m : Method) (family : Option Family) (tree : Tree) (w : Bool) → IsChecked form → slice_get form.methods n ≡ Some m
     → AreTyped form (question_variables m family) (terms_of_tree tree) → AreTyped form (question_variables m family) (terms_asked m tree w)

@@ -1,9 +1,7 @@
 -- The configurations of all terms, and that they are more than there are of the first ones.
-use Rattle.std.proofs.Common.{◌≡◌, ℕ, zero, suc, ◌+◌, ◌<◌, ◌≤◌, List, [], ◌∷◌, length, Contains, AllPairs, Option, Some, slice_index, slice_index_or, arith, refl, ap, sym, subst, ◌∙◌}
-use Rattle.std.specs.Prelude.{◌≢◌, slice_get}
+use Rattle.std.proofs.Common.{◌≡◌, ℕ, zero, suc, ◌+◌, ◌<◌, List, length, Option, slice_index, slice_index_or, arith, ap, subst}
 use Rattle.std.specs.Cmp.Lexicographic.{slice_cmp}
 use Rattle.std.specs.Ordering.{nat_cmp}
-use Rattle.std.specs.declared.cmp.Ordering.TheVariants.{Less}
 use Rattle.std.proofs.lemmas.Cmp.{nat_list_cmp_total, tied_itself}
 use Rattle.easl_model.proofs.Standing.{item_at}
 use Rattle.access_paths.specs.declared.term.Term.{Term}

@@ -26,7 +26,11 @@ fn gather_test(alloc: Global, test: &Test, list: &mut Vec<Term>) -> Result<(), A
 
 /// The terms of these clauses, or of the conditions that one has.
 #[cycle(gather_tests)]
-pub(crate) fn gather_tests(alloc: Global, tests: &[Test], list: &mut Vec<Term>) -> Result<(), AllocError>
+pub(crate) fn gather_tests(
+    alloc: Global,
+    tests: &[Test],
+    list: &mut Vec<Term>,
+) -> Result<(), AllocError>
     ensures { OnOk result (Gathers (terms_of_conditions 3 (conditions (map condition_of tests.now))) list.old.items list.new.items) }
 {
     'each: for test in tests {

@@ -66,4 +66,3 @@ fn place_for(list: &[Term], term: &Term) -> Option<usize>
     }
     Some(list.len())
 }
-

@@ -1,7 +1,7 @@
 use Rattle.std.proofs.Common.{◌≡◌, [], ◌∷◌, OnOk, arith, ap, subst, sym, ◌∙◌}
 use Rattle.std.proofs.lemmas.List.{take_all}
-use Rattle.case_model.specs.TermLists.{term_of, terms_of_condition, terms_of_conditions}
-use Rattle.easl_model.specs.Conditions.{condition_of, conditions}
+use Rattle.case_model.specs.TermLists.{term_of, terms_of_condition}
+use Rattle.easl_model.specs.Conditions.{condition_of}
 use Rattle.alias_cases.specs.Gathering.{Gathers}
 use Rattle.alias_cases.proofs.Plain.{plain_all, plain_any, plain_differ, plain_same}
 use Rattle.alias_cases.proofs.OfTests.{terms_of_tests, tests_more}

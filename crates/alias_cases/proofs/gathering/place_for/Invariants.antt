@@ -1,4 +1,4 @@
-use Rattle.std.proofs.Common.{◌≡◌, ◌≤◌, ◌++◌, drop, length, take}
+use Rattle.std.proofs.Common.{◌≡◌, ◌++◌, drop, take}
 use Rattle.alias_cases.specs.Gathering.{inserted}
 use Rattle.alias_cases.proofs.gathering.place_for.Given as goal
 

@@ -1,9 +1,8 @@
-use Rattle.std.proofs.Common.{rules, ℕ, ◌+◌, List, [], ◌∷◌, ◌++◌, length, arith, ap, subst, sym, ◌≡◌, ◌∙◌, length-append, add-one}
+use Rattle.std.proofs.Common.{rules, arith, subst, sym, length-append, add-one}
 use Rattle.std.proofs.lemmas.Slice.Zip.{zip_end, zip_turn}
 use Rattle.case_model.specs.Configurations.{AreConfigurations, AreMoreThan}
 use Rattle.case_model.specs.TermLists.{IsTermList}
 use Rattle.alias_cases.specs.Steps.{AreSteps, IsClosed}
-use Rattle.alias_cases.proofs.Arranged.{IsLevel}
 use Rattle.alias_cases.proofs.Ladders.{closed}
 use Rattle.alias_cases.proofs.Levels.{first_level}
 use Rattle.alias_cases.proofs.Turns.{level_end, level_over, level_turn}
