@@ -1,6 +1,6 @@
 //! Clients that are read.
-use client_parser::read_client;
 use client_model::{Proc, Rhs, Stmt, Test};
+use client_parser::read_client;
 use cv_lex::{TextFault, Which};
 use easl_model::{Opaque, Place, Sort};
 use std::test::Fail;

@@ -1,7 +1,7 @@
 //! Specifications that are read.
-use easl_parser::read_spec;
 use cv_lex::{TextFault, Which};
 use easl_model::{Code, Cond, Member, Opaque, Place, Sort, Step, Value};
+use easl_parser::read_spec;
 use std::test::Fail;
 
 const TEXT: &[u8] = b"class Set {

@@ -97,9 +97,11 @@ module _ (form : Form) (checked : IsChecked form) (b : Body) (m : Method) (xs : 
       }
 
   reached : (path : Path) (r : Reach) (end : ℕ) → Reaches checked.tree (scope_at b 0) path r end → LeadsSomewhere (term_of 3 r)
-  reached path r end reaches =
-      (end, subst (λ fs. IsTermOf form here (term (3 + r.slot) fs) end) (sym reaches.fields)
-      (leads_from path path.head r.slot reaches.first reaches.rest (Some reaches.start) reaches.start end reaches.begins refl reaches.leads))
+  reached path r end reaches = (
+    end,
+    subst (λ fs. IsTermOf form here (term (3 + r.slot) fs) end) (sym reaches.fields)
+        (leads_from path path.head r.slot reaches.first reaches.rest (Some reaches.start) reaches.start end reaches.begins refl reaches.leads),
+  )
 
   sides : (left right : Path) (l r : Reach) → AreSides checked.tree (scope_at b 0) left right l r → (t : Term) → Contains (term_of 3 l ∷ term_of 3 r ∷ []) t → LeadsSomewhere t
   sides left right l r are t has = by has.0 has.1 has.2

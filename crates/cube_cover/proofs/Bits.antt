@@ -33,9 +33,11 @@ row_pass truths n row at is = record {
   words = is.words;
   bits = λ x. (
     (λ set. let b = (is.bits x).0 set in (b.0, omega (arith, b.1))),
-    (λ b. (is.bits x).1 (b.0,
-        ⊎_elim (λ (e : 64 * x.0 + x.1 ≡ n). absurd (let one : slice_get truths n ≡ Some true = ap (slice_get truths) (sym e) ∙ b.0.1 in cc))
-        (⊎_elim (λ (l : 64 * x.0 + x.1 < n). l) (λ (l : n < 64 * x.0 + x.1). absurd (omega (arith, l, b.1)))) (cases_order (64 * x.0 + x.1) n))),
+    (λ b. (is.bits x).1 (
+      b.0,
+      ⊎_elim (λ (e : 64 * x.0 + x.1 ≡ n). absurd (let one : slice_get truths n ≡ Some true = ap (slice_get truths) (sym e) ∙ b.0.1 in cc))
+          (⊎_elim (λ (l : 64 * x.0 + x.1 < n). l) (λ (l : n < 64 * x.0 + x.1). absurd (omega (arith, l, b.1)))) (cases_order (64 * x.0 + x.1) n),
+    )),
   );
 }
 
@@ -98,15 +100,15 @@ bit_set row place within word bit =
         let was : slice_index row word ≡ old = ap (slice_index row) e in
         ⊎_elim
         (λ (s : bit ≡ place % 64). (
-            (λ set. inl (omega (arith, s), omega (arith, s, e))),
-            (λ is. ap (λ n. bit_at n bit) same ∙ ap (bit_at new) s ∙ bit_at_set_same w64 old (place % 64) (omega arith)),
+          (λ set. inl (omega (arith, s), omega (arith, s, e))),
+          (λ is. ap (λ n. bit_at n bit) same ∙ ap (bit_at new) s ∙ bit_at_set_same w64 old (place % 64) (omega arith)),
         ))
         (λ (apart : (bit < place % 64) ⊎ (place % 64 < bit)).
         let differs : bit ≢ place % 64 = λ f. ⊎_elim (λ (l : bit < place % 64). omega (arith, l, f)) (λ (l : place % 64 < bit). omega (arith, l, f)) apart in
         let kept : bit_at new bit ≡ bit_at old bit = bit_at_set_other w64 old (place % 64) (omega arith) bit differs in (
-            (λ set. inr (ap (λ n. bit_at n bit) was ∙ sym kept ∙ ap (λ n. bit_at n bit) (sym same) ∙ set)),
-            (λ is. ap (λ n. bit_at n bit) same ∙ kept ∙ ap (λ n. bit_at n bit) (sym was)
-                ∙ ⊎_elim {C = IsSet row word bit}
-                (λ (f : (bit < 64) × (64 * word + bit ≡ place)). absurd (differs (omega (arith, f.0, f.1)))) (λ (o : IsSet row word bit). o) is),
+          (λ set. inr (ap (λ n. bit_at n bit) was ∙ sym kept ∙ ap (λ n. bit_at n bit) (sym same) ∙ set)),
+          (λ is. ap (λ n. bit_at n bit) same ∙ kept ∙ ap (λ n. bit_at n bit) (sym was)
+              ∙ ⊎_elim {C = IsSet row word bit}
+              (λ (f : (bit < 64) × (64 * word + bit ≡ place)). absurd (differs (omega (arith, f.0, f.1)))) (λ (o : IsSet row word bit). o) is),
         ))
         (cases_order bit (place % 64))
