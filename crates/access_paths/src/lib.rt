@@ -3,6 +3,7 @@
 
 mod cube;
 mod family;
+mod fitting;
 mod laws;
 mod permutations;
 mod rename;
@@ -13,6 +14,7 @@ mod twins;
 
 pub use cube::cmp_cube;
 pub use family::family_of;
+pub use fitting::fits;
 pub use laws::{
     cubes_are_ordered, family_is_one, family_keeps_truth, family_returns_cube, renaming_keeps_truth,
 };
