@@ -1,12 +1,12 @@
 -- Rows of bits that are set one by one.
-use Rattle.std.proofs.Common.{◌≡◌, ◌≢◌, ◌↔◌, ◌⊎◌, ℕ, zero, suc, ◌+◌, ◌*◌, ◌/◌, ◌%◌, ◌^◌, ◌<◌, ◌≤◌, Bool, true, false, List, [], ◌∷◌, length, get_or, bit_or, Some, refl, ap, sym, subst, ◌∙◌, inl, inr, ⊎_elim, arith}
+use Rattle.std.proofs.Common.{◌≡◌, ◌≢◌, ◌↔◌, ◌⊎◌, ℕ, zero, suc, ◌+◌, ◌*◌, ◌/◌, ◌%◌, ◌^◌, ◌<◌, ◌≤◌, Bool, true, false, List, length, bit_or, Some, ap, sym, ◌∙◌, inl, inr, ⊎_elim, arith}
 use Rattle.std.specs.Prelude.{slice_get, slice_index, slice_set}
 use Rattle.std.proofs.Math.ListN.{replicate}
 use Rattle.std.specs.Int.{bit_at, w64}
 use Rattle.std.proofs.lemmas.Bool.{cases_order}
-use Rattle.std.proofs.lemmas.List.{get_or-replicate, get_or_past, get_or-set_same, get_or-set_other, length-replicate}
+use Rattle.std.proofs.lemmas.List.{get_or-set_same, get_or-set_other}
 use Rattle.std.proofs.lemmas.Nat.Bits.{bit_at-zero, bit_at_set_same, bit_at_set_other}
-use Rattle.std.proofs.lemmas.Option.{slice_get-get_or, get_or_from_slice_get, slice_get_within}
+use Rattle.std.proofs.lemmas.Option.{slice_get_within}
 use Rattle.cube_search.specs.Cubes.{IsSet}
 use Rattle.cube_cover.specs.Rows.{IsTruth, IsRowOf}
 
@@ -33,9 +33,11 @@ row_pass truths n row at is = record {
   words = is.words;
   bits = λ x. (
     (λ set. let b = (is.bits x).0 set in (b.0, omega (arith, b.1))),
-    (λ b. (is.bits x).1 (b.0,
-        ⊎_elim (λ (e : 64 * x.0 + x.1 ≡ n). absurd (let one : slice_get truths n ≡ Some true = ap (slice_get truths) (sym e) ∙ b.0.1 in cc))
-        (⊎_elim (λ (l : 64 * x.0 + x.1 < n). l) (λ (l : n < 64 * x.0 + x.1). absurd (omega (arith, l, b.1)))) (cases_order (64 * x.0 + x.1) n))),
+    (λ b. (is.bits x).1 (
+      b.0,
+      ⊎_elim (λ (e : 64 * x.0 + x.1 ≡ n). absurd (let one : slice_get truths n ≡ Some true = ap (slice_get truths) (sym e) ∙ b.0.1 in cc))
+          (⊎_elim (λ (l : 64 * x.0 + x.1 < n). l) (λ (l : n < 64 * x.0 + x.1). absurd (omega (arith, l, b.1)))) (cases_order (64 * x.0 + x.1) n),
+    )),
   );
 }
 
@@ -98,15 +100,15 @@ bit_set row place within word bit =
         let was : slice_index row word ≡ old = ap (slice_index row) e in
         ⊎_elim
         (λ (s : bit ≡ place % 64). (
-            (λ set. inl (omega (arith, s), omega (arith, s, e))),
-            (λ is. ap (λ n. bit_at n bit) same ∙ ap (bit_at new) s ∙ bit_at_set_same w64 old (place % 64) (omega arith)),
+          (λ set. inl (omega (arith, s), omega (arith, s, e))),
+          (λ is. ap (λ n. bit_at n bit) same ∙ ap (bit_at new) s ∙ bit_at_set_same w64 old (place % 64) (omega arith)),
         ))
         (λ (apart : (bit < place % 64) ⊎ (place % 64 < bit)).
         let differs : bit ≢ place % 64 = λ f. ⊎_elim (λ (l : bit < place % 64). omega (arith, l, f)) (λ (l : place % 64 < bit). omega (arith, l, f)) apart in
         let kept : bit_at new bit ≡ bit_at old bit = bit_at_set_other w64 old (place % 64) (omega arith) bit differs in (
-            (λ set. inr (ap (λ n. bit_at n bit) was ∙ sym kept ∙ ap (λ n. bit_at n bit) (sym same) ∙ set)),
-            (λ is. ap (λ n. bit_at n bit) same ∙ kept ∙ ap (λ n. bit_at n bit) (sym was)
-                ∙ ⊎_elim {C = IsSet row word bit}
-                (λ (f : (bit < 64) × (64 * word + bit ≡ place)). absurd (differs (omega (arith, f.0, f.1)))) (λ (o : IsSet row word bit). o) is),
+          (λ set. inr (ap (λ n. bit_at n bit) was ∙ sym kept ∙ ap (λ n. bit_at n bit) (sym same) ∙ set)),
+          (λ is. ap (λ n. bit_at n bit) same ∙ kept ∙ ap (λ n. bit_at n bit) (sym was)
+              ∙ ⊎_elim {C = IsSet row word bit}
+              (λ (f : (bit < 64) × (64 * word + bit ≡ place)). absurd (differs (omega (arith, f.0, f.1)))) (λ (o : IsSet row word bit). o) is),
         ))
         (cases_order bit (place % 64))

@@ -1,10 +1,9 @@
 -- What the search's answer says of cubes: the chosen ones are the disjuncts, and they fall short where they are not enough.
-use Rattle.std.proofs.Common.{◌≡◌, ℕ, zero, suc, ◌<◌, Bool, true, false, List, [], ◌∷◌, length, get_or, map, All, Any, Contains, refl, ap, sym, subst, ◌∙◌, inl, inr, ⊎_elim, arith}
-use Rattle.std.specs.Prelude.{◌↔◌, ◌⊎◌}
+use Rattle.std.proofs.Common.{◌≡◌, ℕ, zero, suc, ◌<◌, Bool, true, false, List, [], ◌∷◌, length, get_or, map, All, Any, Contains, refl, ap, sym, subst, inl, inr, ⊎_elim, arith}
+use Rattle.std.specs.Prelude.{◌⊎◌}
 use Rattle.std.proofs.lemmas.List.Elements.{Contains-get_or}
 use Rattle.access_paths.specs.Trees.{Tree, answer}
 use Rattle.access_paths.specs.Truth.{cube_holds}
-use Rattle.access_paths.specs.declared.term.Cube.{Cube}
 use Rattle.access_paths.specs.declared.term.Literal.{Literal}
 use Rattle.access_paths.specs.declared.term.Term.{Term}
 use Rattle.case_model.specs.Configurations.{AreConfigurations, IsConfiguration, by_blocks}
@@ -114,7 +113,7 @@ module _ (ts : List Term) (classes : List ℕ) (is : IsTermList ts classes) (car
       let t = each.to e.0 x.0 (are.widest e.0 e.1).0.counts e.2 in
       let h = true_told ts care tree (map (λ n. get_or (literals_over ts classes) n none_such) e.0.cube) x.0 bs x.1 t.1 in
       let k = in_contains (cube_of (literals_over ts classes) e.0.cube) (cubes_of (literals_over ts classes) chosen)
-          (in_map (λ c. cube_of (literals_over ts classes) c.cube) chosen e.0 e.1) in
+      (in_map (λ c. cube_of (literals_over ts classes) c.cube) chosen e.0 e.1) in
       (k.0, cube_of (literals_over ts classes) e.0.cube, k.1, k.2, h)
 
   all_enough : ((bs : List ℕ) → IsIn bs care → answer (by_blocks ts bs) tree ≡ true
@@ -123,10 +122,13 @@ module _ (ts : List Term) (classes : List ℕ) (is : IsTermList ts classes) (car
       let r = row_to (λ bs. answer (by_blocks ts bs) tree) care task.wanted made.wanted x set in
       let a = all r.0 (contains_in r.0 care (there ts care tree x r.0 r.1)) r.2 in
       let m = of_map (λ c. cube_of (literals_over ts classes) c.cube) chosen a.1
-          (contains_in a.1 (cubes_of (literals_over ts classes) chosen) (a.0, a.2, a.3)) in
-      let h : told.IsTrueAt ts care tree (cube_of (literals_over ts classes) m.0.cube) r.0 = subst (λ c. told.IsTrueAt ts care tree c r.0) (sym m.2) a.4 in
-      (m.0, m.1, each.from m.0 x (are.widest m.0 m.1).0.counts
-      ((r.0, r.1), told_true ts care tree (map (λ n. get_or (literals_over ts classes) n none_such) m.0.cube) x r.0 r.1 h))
+      (contains_in a.1 (cubes_of (literals_over ts classes) chosen) (a.0, a.2, a.3)) in
+      let h : told.IsTrueAt ts care tree (cube_of (literals_over ts classes) m.0.cube) r.0 = subst (λ c. told.IsTrueAt ts care tree c r.0) (sym m.2) a.4 in (
+        m.0,
+        m.1,
+        each.from m.0 x (are.widest m.0 m.1).0.counts
+            ((r.0, r.1), told_true ts care tree (map (λ n. get_or (literals_over ts classes) n none_such) m.0.cube) x r.0 r.1 h),
+      )
 
   pub all_together : IsEnough task.wanted chosen → AreTogether ts care tree (cubes_of (literals_over ts classes) chosen)
   all_together enough k d h = (

@@ -32,7 +32,7 @@ module _ (ls : List Literal) (variables : List (ℕ × ℕ))
   any_same v from [] tail = refl
   any_same v from (n ∷ ns) tail =
       let one : has v (get_or ls n none_such) ≡ is_mentioned variables v n =
-          sym (ap (λ o. option_map_or (λ p. p.0 == v || p.1 == v) o false) (are n tail.1)) in
+      sym (ap (λ o. option_map_or (λ p. p.0 == v || p.1 == v) o false) (are n tail.1)) in
       λ i. one i || any_same v (suc n) ns tail.2 i
 
   pub few_same : (numbers : List ℕ) → IsTail 0 (length ls) numbers → is_few (map (λ n. get_or ls n none_such) numbers) ≡ search.is_few variables numbers
@@ -40,7 +40,7 @@ module _ (ls : List Literal) (variables : List (ℕ × ℕ))
   few_same numbers tail =
       let e = λ (v : ℕ). ap one_if (any_same v 0 numbers tail) in
       let all : variable_count (cube (map (λ n. get_or ls n none_such) numbers)) ≡ how_many variables numbers 8 =
-          omega (arith, e 0, e 1, e 2, e 3, e 4, e 5, e 6, e 7) in
+      omega (arith, e 0, e 1, e 2, e 3, e 4, e 5, e 6, e 7) in
       ap (λ n. nat_le n 3) all
 
 in_any : (p : Literal → Bool) (l : Literal) (xs : List Literal) → IsIn l xs → p l ≡ true → list_any p xs ≡ true

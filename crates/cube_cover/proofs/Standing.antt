@@ -1,7 +1,6 @@
 -- A task that has the rows of a term list's literals is one that the search can take.
-use Rattle.std.proofs.Common.{◌≡◌, ℕ, ◌+◌, ◌*◌, ◌/◌, ◌<◌, ◌==◌, Bool, true, false, not, List, [], length, get_or, map, All, Contains, Some, refl, ap, sym, subst, ◌∙◌, inl, inr, ⊎_elim, arith, if◌then◌else◌}
-use Rattle.std.specs.Prelude.{◌↔◌, ◌⊎◌, slice_get, slice_index}
-use Rattle.std.specs.List.{AllZip}
+use Rattle.std.proofs.Common.{◌≡◌, ℕ, ◌+◌, ◌*◌, ◌/◌, ◌<◌, ◌==◌, Bool, true, false, not, List, [], length, get_or, map, Contains, Some, refl, ap, sym, subst, ◌∙◌, inl, inr, ⊎_elim, arith, if◌then◌else◌}
+use Rattle.std.specs.Prelude.{◌⊎◌, slice_get, slice_index}
 use Rattle.std.specs.declared.cmp.Ordering.TheVariants.{Less}
 use Rattle.std.proofs.lemmas.Bool.{cases_order}
 use Rattle.std.proofs.lemmas.Bool.Decides.{eqb_tells}
@@ -19,13 +18,13 @@ use Rattle.case_model.specs.Configurations.{IsConfiguration, by_blocks, place_of
 use Rattle.case_model.specs.TermLists.{IsTermList}
 use Rattle.case_model.proofs.Terms.{found_at}
 use Rattle.cube_search.specs.Cubes.{AreAsLong, IsEmpty, IsSet}
-use Rattle.cube_search.specs.Lists.{Each, IsIn, Rises}
+use Rattle.cube_search.specs.Lists.{IsIn, Rises}
 use Rattle.cube_search.specs.declared.searching.Task.{Task}
 use Rattle.cube_search.proofs.Lists.{each-from, each-in}
 use Rattle.cube_search.proofs.Literals.{IsTable}
-use Rattle.cube_cover.specs.Literals.{literal, literals_over, none_such}
-use Rattle.cube_cover.specs.Rows.{IsRowOf, IsTruth}
-use Rattle.cube_cover.specs.Table.{IsTaskOf, answers_of, everywhere, truths_of}
+use Rattle.cube_cover.specs.Literals.{literals_over, none_such}
+use Rattle.cube_cover.specs.Rows.{IsRowOf}
+use Rattle.cube_cover.specs.Table.{IsTaskOf, everywhere}
 use Rattle.cube_cover.proofs.Few.{few_less, few_same, is_few}
 use Rattle.cube_cover.proofs.Listed.{IsLessTerm, over_in, over_parts, over_rises}
 use Rattle.cube_cover.proofs.Named.{at_map, in_contains, map_at, pairs_rises, zip_at, zip_each}
@@ -74,8 +73,8 @@ module _ (ts : List Term) (classes : List ℕ) (is : IsTermList ts classes) wher
       (λ (l : i < j). l)
       (λ (l : j < i).
       let turned : compare_terms u t ≡ Less =
-          subst (λ w. compare_terms u w ≡ Less) (get_or_from_slice_get ts i t t at)
-          (subst (λ v. compare_terms v (get_or ts i t) ≡ Less) (get_or_from_slice_get ts j u t at') (is.terms.ordered j i t l (slice_get_within ts i t at))) in
+      subst (λ w. compare_terms u w ≡ Less) (get_or_from_slice_get ts i t t at)
+      (subst (λ v. compare_terms v (get_or ts i t) ≡ Less) (get_or_from_slice_get ts j u t at') (is.terms.ordered j i t l (slice_get_within ts i t at))) in
       absurd (term_not_less t t refl (terms_total.trans t u t less turned))))
       (cases_order i j)
 

@@ -1,5 +1,5 @@
 -- What is chosen among lists of literals at words and bits, in the words of the definition: cubes in configurations of a care list.
-use Rattle.std.proofs.Common.{◌≡◌, ℕ, zero, suc, ◌+◌, ◌*◌, ◌/◌, ◌%◌, ◌<◌, true, false, List, [], ◌∷◌, length, get_or, map, All, Contains, Some, refl, ap, sym, subst, ◌∙◌, inl, inr, ⊎_elim, arith, le-leb, leb-true}
+use Rattle.std.proofs.Common.{◌≡◌, ℕ, ◌+◌, ◌*◌, ◌/◌, ◌%◌, ◌<◌, true, false, List, [], ◌∷◌, length, get_or, map, Contains, Some, refl, ap, sym, subst, ◌∙◌, inl, inr, ⊎_elim, arith, le-leb, leb-true}
 use Rattle.std.specs.Prelude.{◌⊎◌, slice_get}
 use Rattle.std.specs.Cmp.Lexicographic.{slice_cmp}
 use Rattle.std.specs.Ordering.{nat_cmp, ordering_then}
@@ -180,9 +180,11 @@ module _ (ts : List Term) (care : List (List ℕ)) (tree : Tree) where
   told_inside c d inside x t =
       let bs = t.0.0 in
       let a = t.0.1 in
-      let go = get_each (λ bs. told.IsTrueAt ts care tree (cube c) bs → told.IsTrueAt ts care tree (cube d) bs) care inside in
-      (t.0, told_true d x bs a (each-in (λ bs. told.IsTrueAt ts care tree (cube c) bs → told.IsTrueAt ts care tree (cube d) bs) care bs go
-      (contains_in bs care (there x bs a)) (true_told c x bs a t.1)))
+      let go = get_each (λ bs. told.IsTrueAt ts care tree (cube c) bs → told.IsTrueAt ts care tree (cube d) bs) care inside in (
+        t.0,
+        told_true d x bs a (each-in (λ bs. told.IsTrueAt ts care tree (cube c) bs → told.IsTrueAt ts care tree (cube d) bs) care bs go
+            (contains_in bs care (there x bs a)) (true_told c x bs a t.1)),
+      )
 
   implicant_told : (c : List Literal) → Implicant c → told.IsImplicant ts care tree (cube c)
   implicant_told c h = record {
@@ -216,7 +218,7 @@ module _ (ts : List Term) (care : List (List ℕ)) (tree : Tree) where
         let bs = wrong.0 in
         let p = there x bs wrong.1 in
         let yes : answer (by_blocks ts bs) tree ≡ true =
-            subst (λ b. told.IsTrueAt ts care tree (cube c) b → answer (by_blocks ts b) tree ≡ true) p.2 (h.none p.0 bs p.1) (true_told c x bs wrong.1 t.1) in
+        subst (λ b. told.IsTrueAt ts care tree (cube c) b → answer (by_blocks ts b) tree ≡ true) p.2 (h.none p.0 bs p.1) (true_told c x bs wrong.1 t.1) in
         let not_so = wrong.2 in
         absurd (cc);
   }
@@ -251,10 +253,17 @@ module _ (ts : List Term) (care : List (List ℕ)) (tree : Tree) where
             let x = w.1.0 in
                 let bs = w.1.1.0.0 in
                 let a = w.1.1.0.1 in
-                let p = there x bs a in
-                (p.0, bs, p.1, p.2, (true_told c.literals x bs a w.1.1.1,
-                λ d in_list first t. w.1.2 d.literals (cubes_in cubes d (contains_in d (map cube cubes) in_list)) (told_less d.literals c.literals first)
-                ((bs, a), told_true d.literals x bs a t))),
+                let p = there x bs a in (
+                  p.0,
+                  bs,
+                  p.1,
+                  p.2,
+                  (
+                    true_told c.literals x bs a w.1.1.1,
+                    λ d in_list first t. w.1.2 d.literals (cubes_in cubes d (contains_in d (map cube cubes) in_list)) (told_less d.literals c.literals first)
+                        ((bs, a), told_true d.literals x bs a t),
+                  ),
+                ),
           )),
       (λ h.
           let s = h.1 in
@@ -263,9 +272,11 @@ module _ (ts : List Term) (care : List (List ℕ)) (tree : Tree) where
           (record {
             counts = told_implicant c.literals h.0.implicant;
             widest = λ d imp inside. told_inside d c.literals (h.0.widest (cube d) (implicant_told d imp) (inside_told c.literals d inside));
-          })
-          (x.0, ((s.1, x.1), told_true c.literals x.0 s.1 x.1 s.4.0),
-          λ d i first t. s.4.1 (cube d) (in_contains (cube d) (map cube cubes) (in_cubes cubes d i)) (less_told d c.literals first)
-          (true_told d x.0 s.1 x.1 t.1))))),
+          }) (
+            x.0,
+            ((s.1, x.1), told_true c.literals x.0 s.1 x.1 s.4.0),
+            λ d i first t. s.4.1 (cube d) (in_contains (cube d) (map cube cubes) (in_cubes cubes d i)) (less_told d c.literals first)
+                (true_told d x.0 s.1 x.1 t.1),
+          )))),
     );
   }

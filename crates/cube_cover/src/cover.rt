@@ -48,11 +48,7 @@ pub fn disjuncts(
 }
 
 /// The cubes of the chosen numbers of literals.
-fn cubes_of(
-    alloc: Global,
-    literals: &[Literal],
-    chosen: &[Candidate],
-) -> Result<Vec<Cube>, Memory>
+fn cubes_of(alloc: Global, literals: &[Literal], chosen: &[Candidate]) -> Result<Vec<Cube>, Memory>
     requires { All (λ c. All (λ n. n < length literals.now) c.cube) chosen.now }
     ensures { IfOk result (λ cubes. cubes.items ≡ told.cubes_of literals.now chosen.now) }
 {

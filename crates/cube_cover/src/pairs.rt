@@ -19,7 +19,14 @@ pub(crate) fn literals_over(
     let mut literals = Vec::new(alloc);
     'each: for (place, term) in terms.iter().enumerate() {
         let class = block_at(classes, place);
-        push_with(alloc, &mut literals, term, class, &terms[place + 1..], &classes[place + 1..])?;
+        push_with(
+            alloc,
+            &mut literals,
+            term,
+            class,
+            &terms[place + 1..],
+            &classes[place + 1..],
+        )?;
     }
     Ok(literals)
 }

@@ -19,13 +19,13 @@ disjuncts-requires c =
     let care = configurations_at c.args.cases.now.list c.args.care.now in
     let tree = tree_of c.args.tree.now in
     let made : IsTaskOf ts care tree (literals_over ts classes) c.in_ok-task.task =
-        rw (c.deref.ensures.value, c.in_ok-literals.ensures, c.as_slice-terms.ensures, c.as_slice-list.ensures, c.as_slice.ensures) at c.in_ok-task.ensures in
+    rw (c.deref.ensures.value, c.in_ok-literals.ensures, c.as_slice-terms.ensures, c.as_slice-list.ensures, c.as_slice.ensures) at c.in_ok-task.ensures in
     let row : IsRowOf (everywhere false care) c.in_ok-none.none = rw (c.as_slice-list.ensures) at c.in_ok-none.ensures in
     record {
       empty = none_empty ts classes c.requires.cases.term_list care (named_are ts classes c.args.cases.now.list c.args.care.now c.requires.cases.whole c.requires.care) tree
-    c.in_ok-task.task made c.in_ok-none.none row;
+          c.in_ok-task.task made c.in_ok-none.none row;
       long = as_long ts classes c.requires.cases.term_list care (named_are ts classes c.args.cases.now.list c.args.care.now c.requires.cases.whole c.requires.care) tree
-    c.in_ok-task.task made c.in_ok-none.none row;
+          c.in_ok-task.task made c.in_ok-none.none row;
     }
 
 pub cubes_of-requires : goal.cubes_of-requires
@@ -35,7 +35,7 @@ cubes_of-requires c =
     let care = configurations_at c.args.cases.now.list c.args.care.now in
     let tree = tree_of c.args.tree.now in
     let made : IsTaskOf ts care tree (literals_over ts classes) c.in_ok-task.task =
-        rw (c.deref.ensures.value, c.in_ok-literals.ensures, c.as_slice-terms.ensures, c.as_slice-list.ensures, c.as_slice.ensures) at c.in_ok-task.ensures in
+    rw (c.deref.ensures.value, c.in_ok-literals.ensures, c.as_slice-terms.ensures, c.as_slice-list.ensures, c.as_slice.ensures) at c.in_ok-task.ensures in
     let row : IsRowOf (everywhere false care) c.in_ok-none.none = rw (c.as_slice-list.ensures) at c.in_ok-none.ensures in
     rw (c.deref-2.ensures.value, c.deref-3.ensures.value, c.in_ok-literals.ensures, c.as_slice-terms.ensures, c.as_slice.ensures)
     (numbers_within ts classes c.requires.cases.term_list care (named_are ts classes c.args.cases.now.list c.args.care.now c.requires.cases.whole c.requires.care) tree
@@ -48,7 +48,7 @@ returns-clause-chosen c =
     let care = configurations_at c.args.cases.now.list c.args.care.now in
     let tree = tree_of c.args.tree.now in
     let made : IsTaskOf ts care tree (literals_over ts classes) c.in_ok-task.task =
-        rw (c.deref.ensures.value, c.in_ok-literals.ensures, c.as_slice-terms.ensures, c.as_slice-list.ensures, c.as_slice.ensures) at c.in_ok-task.ensures in
+    rw (c.deref.ensures.value, c.in_ok-literals.ensures, c.as_slice-terms.ensures, c.as_slice-list.ensures, c.as_slice.ensures) at c.in_ok-task.ensures in
     let row : IsRowOf (everywhere false care) c.in_ok-none.none = rw (c.as_slice-list.ensures) at c.in_ok-none.ensures in
     rw (c.in_ok-cubes_of.ensures, c.deref-2.ensures.value, c.deref-3.ensures.value, c.in_ok-literals.ensures, c.as_slice-terms.ensures, c.as_slice.ensures)
     (the_disjuncts ts classes c.requires.cases.term_list care (named_are ts classes c.args.cases.now.list c.args.care.now c.requires.cases.whole c.requires.care) tree
@@ -61,7 +61,7 @@ returns-clause-whole c =
     let care = configurations_at c.args.cases.now.list c.args.care.now in
     let tree = tree_of c.args.tree.now in
     let made : IsTaskOf ts care tree (literals_over ts classes) c.in_ok-task.task =
-        rw (c.deref.ensures.value, c.in_ok-literals.ensures, c.as_slice-terms.ensures, c.as_slice-list.ensures, c.as_slice.ensures) at c.in_ok-task.ensures in
+    rw (c.deref.ensures.value, c.in_ok-literals.ensures, c.as_slice-terms.ensures, c.as_slice-list.ensures, c.as_slice.ensures) at c.in_ok-task.ensures in
     let row : IsRowOf (everywhere false care) c.in_ok-none.none = rw (c.as_slice-list.ensures) at c.in_ok-none.ensures in
     let so : c.in_ok-choice.choice.is_enough ≡ true = first_of (search rules, cc) in
     rw (c.in_ok-cubes_of.ensures, c.deref-2.ensures.value, c.deref-3.ensures.value, c.in_ok-literals.ensures, c.as_slice-terms.ensures, c.as_slice.ensures)
@@ -76,7 +76,7 @@ returns-clause-together c =
     let care = configurations_at c.args.cases.now.list c.args.care.now in
     let tree = tree_of c.args.tree.now in
     let made : IsTaskOf ts care tree (literals_over ts classes) c.in_ok-task.task =
-        rw (c.deref.ensures.value, c.in_ok-literals.ensures, c.as_slice-terms.ensures, c.as_slice-list.ensures, c.as_slice.ensures) at c.in_ok-task.ensures in
+    rw (c.deref.ensures.value, c.in_ok-literals.ensures, c.as_slice-terms.ensures, c.as_slice-list.ensures, c.as_slice.ensures) at c.in_ok-task.ensures in
     let row : IsRowOf (everywhere false care) c.in_ok-none.none = rw (c.as_slice-list.ensures) at c.in_ok-none.ensures in
     let so : c.in_ok-choice.choice.is_enough ≡ true = first_of (search rules, cc) in
     rw (c.in_ok-cubes_of.ensures, c.deref-2.ensures.value, c.deref-3.ensures.value, c.in_ok-literals.ensures, c.as_slice-terms.ensures, c.as_slice.ensures)
@@ -91,14 +91,14 @@ returns-then-not-choice-clause-cover c =
     let care = configurations_at c.args.cases.now.list c.args.care.now in
     let tree = tree_of c.args.tree.now in
     let made : IsTaskOf ts care tree (literals_over ts classes) c.in_ok-task.task =
-        rw (c.deref.ensures.value, c.in_ok-literals.ensures, c.as_slice-terms.ensures, c.as_slice-list.ensures, c.as_slice.ensures) at c.in_ok-task.ensures in
+    rw (c.deref.ensures.value, c.in_ok-literals.ensures, c.as_slice-terms.ensures, c.as_slice-list.ensures, c.as_slice.ensures) at c.in_ok-task.ensures in
     let row : IsRowOf (everywhere false care) c.in_ok-none.none = rw (c.as_slice-list.ensures) at c.in_ok-none.ensures in
     let short : c.in_ok-choice.choice.is_enough ≡ false = first_of (search rules, cc) in
     λ _. (
       cubes_of (literals_over ts classes) c.in_ok-choice.choice.cubes.items,
       the_disjuncts ts classes c.requires.cases.term_list care (named_are ts classes c.args.cases.now.list c.args.care.now c.requires.cases.whole c.requires.care) tree
-    c.in_ok-task.task made c.in_ok-none.none row c.in_ok-choice.choice.cubes.items c.in_ok-choice.ensures.chosen,
+          c.in_ok-task.task made c.in_ok-none.none row c.in_ok-choice.choice.cubes.items c.in_ok-choice.ensures.chosen,
       falls_short ts classes c.requires.cases.term_list care (named_are ts classes c.args.cases.now.list c.args.care.now c.requires.cases.whole c.requires.care) tree
-    c.in_ok-task.task made c.in_ok-none.none row c.in_ok-choice.choice.cubes.items c.in_ok-choice.ensures.chosen
+          c.in_ok-task.task made c.in_ok-none.none row c.in_ok-choice.choice.cubes.items c.in_ok-choice.ensures.chosen
           (λ enough. absurd (let so = c.in_ok-choice.ensures.enough.1 enough in cc)),
     )

@@ -1,4 +1,3 @@
-use Rattle.std.proofs.Common.{rules, ap, subst, ◌∙◌}
 use Rattle.cube_cover.proofs.Caring.{named_each}
 use Rattle.cube_cover.proofs.table.all_row.Goals as goal
 
