@@ -1,7 +1,7 @@
 -- The numbers of the configurations that pass a test, one configuration after another.
-use Rattle.std.proofs.Common.{◌≡◌, ℕ, zero, suc, ◌+◌, ◌<◌, ◌≤◌, Bool, true, false, cond, List, [], ◌∷◌, ◌++◌, length, get_or, take, filter, map, All, refl, ap, ap₂, sym, subst, ◌∙◌, arith}
+use Rattle.std.proofs.Common.{◌≡◌, ℕ, zero, suc, ◌+◌, ◌<◌, Bool, true, false, cond, List, [], ◌∷◌, ◌++◌, length, get_or, take, filter, map, All, refl, ap, ap₂, sym, ◌∙◌, arith}
 use Rattle.std.proofs.lemmas.List.Elements.{filter_more}
-use Rattle.std.proofs.lemmas.List.{map-append}
+use Rattle.std.proofs.lemmas.List.{map-append, map_more}
 use Rattle.cube_cover.specs.Chosen.{configurations_at}
 
 pub any_default : {X : Type 0} (xs : List X) (k : ℕ) (d e : X) → k < length xs → get_or xs k d ≡ get_or xs k e
@@ -26,3 +26,17 @@ within_more most [] n true below all (suc k) d h = absurd (omega arith)
 within_more most [] n false below all k d h = absurd (omega arith)
 within_more most (m ∷ numbers) n so below all zero d h = all 0 d (omega arith)
 within_more most (m ∷ numbers) n so below all (suc k) d h = within_more most numbers n so below (λ i e l. all (suc i) e (omega arith)) k d (omega arith)
+
+-- what is made of each number is made of the configuration that it names
+pub named_each : (f : List ℕ → Bool) (all : List (List ℕ)) (numbers : List ℕ) → map (λ k. f (get_or all k [])) numbers ≡ map f (configurations_at all numbers)
+named_each f all [] = refl
+named_each f all (k ∷ numbers) = ap (λ bs. f (get_or all k []) ∷ bs) (named_each f all numbers)
+
+-- one number more
+pub truth_more : (f : List ℕ → Bool) (all : List (List ℕ)) (numbers : List ℕ) (i k : ℕ) (truths : List Bool) (b : Bool) → i < length numbers
+    → get_or numbers i 0 ≡ k → truths ≡ map f (configurations_at all (take i numbers)) → b ≡ f (get_or all k [])
+    → truths ++ b ∷ [] ≡ map f (configurations_at all (take (i + 1) numbers))
+truth_more f all numbers i k truths b within at before is =
+    ap₂ (λ xs y. xs ++ y ∷ []) (before ∙ sym (named_each f all (take i numbers))) (is ∙ ap (λ z. f (get_or all z [])) (sym at))
+    ∙ sym (map_more (λ z. f (get_or all z [])) numbers i 0 within)
+    ∙ named_each f all (take (i + 1) numbers)

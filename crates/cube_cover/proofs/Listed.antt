@@ -1,14 +1,14 @@
 -- The literals of a term list are in order, and each between two terms of one class is there.
-use Rattle.std.proofs.Common.{◌≡◌, ℕ, zero, suc, ◌<◌, ◌==◌, Bool, true, false, List, [], ◌∷◌, ◌++◌, length, Some, if◌then◌else◌, refl, ap, sym, subst, ◌∙◌, inl, inr, ⊎_elim, arith}
-use Rattle.std.specs.Prelude.{◌⊎◌, slice_get}
+use Rattle.std.proofs.Common.{◌≡◌, ℕ, zero, suc, ◌<◌, ◌==◌, Bool, true, false, List, [], ◌∷◌, ◌++◌, Some, refl, ap, sym, subst, ◌∙◌, inl, inr, arith}
+use Rattle.std.specs.Prelude.{slice_get}
 use Rattle.std.specs.declared.cmp.Ordering.TheVariants.{Less}
 use Rattle.std.proofs.lemmas.Bool.Decides.{Decides-eqb}
 use Rattle.access_paths.specs.Terms.{compare_terms}
 use Rattle.access_paths.specs.declared.term.Literal.{Literal}
 use Rattle.access_paths.specs.declared.term.Term.{Term}
 use Rattle.cube_search.specs.Lists.{Each, IsIn, Rises}
-use Rattle.cube_search.proofs.Lists.{each-append, each-from, each-in, each-weaker, in-left, in-right, rises-append}
-use Rattle.cube_cover.specs.Literals.{literal, literals_over, literals_with}
+use Rattle.cube_search.proofs.Lists.{each-append, each-in, each-weaker, in-left, in-right, rises-append}
+use Rattle.cube_cover.specs.Literals.{both_if, literal, literals_over, literals_with}
 use Rattle.cube_cover.proofs.Order.{IsLessLiteral, less_first, less_second, less_third}
 
 abbrev pub IsLessTerm : Term → Term → Type 0
@@ -28,7 +28,7 @@ with_parts t class (u ∷ us) (k ∷ ks) =
     by (k == class) (each-weaker (IsWith t us) (IsWith t (u ∷ us)) (with_more t u us) (literals_with t class us ks) (with_parts t class us ks))
   where
     by : (b : Bool) → Each (IsWith t (u ∷ us)) (literals_with t class us ks)
-        → Each (IsWith t (u ∷ us)) (if b then literal true t u ∷ literal false t u ∷ literals_with t class us ks else literals_with t class us ks)
+        → Each (IsWith t (u ∷ us)) (both_if b t u ++ literals_with t class us ks)
     by true rest = ((refl, inl refl), ((refl, inl refl), rest))
     by false rest = rest
 
@@ -44,7 +44,7 @@ with_rises t class (u ∷ us) (k ∷ ks) up = by (k == class) (with_rises t clas
         (with_parts t class us ks)
 
     by : (b : Bool) → Rises IsLessLiteral (literals_with t class us ks)
-        → Rises IsLessLiteral (if b then literal true t u ∷ literal false t u ∷ literals_with t class us ks else literals_with t class us ks)
+        → Rises IsLessLiteral (both_if b t u ++ literals_with t class us ks)
     by true rest = (
       (less_third (literal true t u) (literal false t u) refl refl refl refl, before true),
       (before false, rest),
@@ -87,14 +87,14 @@ with_in t class (v ∷ us) (k ∷ ks) zero u same at of =
     by (k == class) same ((Decides-eqb k class).1 its) there
   where
     by : (b same : Bool) → b ≡ true → v ≡ u
-        → IsIn (literal same t u) (if b then literal true t v ∷ literal false t v ∷ literals_with t class us ks else literals_with t class us ks)
+        → IsIn (literal same t u) (both_if b t v ++ literals_with t class us ks)
     by true true e there = inl (ap (literal true t) there)
     by true false e there = inr (inl (ap (literal false t) there))
     by false same e there = absurd (cc)
 with_in t class (v ∷ us) (k ∷ ks) (suc j) u same at of = by (k == class) (with_in t class us ks j u same at of)
   where
     by : (b : Bool) → IsIn (literal same t u) (literals_with t class us ks)
-        → IsIn (literal same t u) (if b then literal true t v ∷ literal false t v ∷ literals_with t class us ks else literals_with t class us ks)
+        → IsIn (literal same t u) (both_if b t v ++ literals_with t class us ks)
     by true rest = inr (inr rest)
     by false rest = rest
 

@@ -1,5 +1,5 @@
 -- What is chosen among lists of literals at words and bits, in the words of the definition: cubes in configurations of a care list.
-use Rattle.std.proofs.Common.{◌≡◌, ℕ, zero, suc, ◌+◌, ◌*◌, ◌/◌, ◌%◌, ◌<◌, true, false, List, [], ◌∷◌, length, get_or, map, All, Contains, Some, refl, ap, sym, subst, ◌∙◌, inl, inr, ⊎_elim, arith, le-leb, leb-true}
+use Rattle.std.proofs.Common.{◌≡◌, ℕ, ◌+◌, ◌*◌, ◌/◌, ◌%◌, ◌<◌, true, false, List, [], ◌∷◌, length, get_or, map, Contains, Some, refl, ap, sym, subst, ◌∙◌, inl, inr, ⊎_elim, arith, le-leb, leb-true}
 use Rattle.std.specs.Prelude.{◌⊎◌, slice_get}
 use Rattle.std.specs.Cmp.Lexicographic.{slice_cmp}
 use Rattle.std.specs.Ordering.{nat_cmp, ordering_then}

@@ -9,12 +9,15 @@ use Rattle.cube_search.specs.declared.searching.Candidate.{Candidate}
 abbrev pub literal : Bool → Term → Term → Literal
 literal same less more = record { same = same; less = less; more = more }
 
+-- `==` and `!=` of two terms, if it is so
+abbrev pub both_if : Bool → Term → Term → List Literal
+both_if so less more = if so then literal true less more ∷ literal false less more ∷ [] else []
+
 -- `==` and `!=` of a term of this class and each of these that is of its class
 abbrev pub literals_with : Term → ℕ → List Term → List ℕ → List Literal
 literals_with t class [] classes = []
 literals_with t class (u ∷ us) [] = []
-literals_with t class (u ∷ us) (k ∷ ks) =
-    if k == class then literal true t u ∷ literal false t u ∷ literals_with t class us ks else literals_with t class us ks
+literals_with t class (u ∷ us) (k ∷ ks) = both_if (k == class) t u ++ literals_with t class us ks
 
 -- those of each of these terms and a later one, where the terms are of these classes
 abbrev pub literals_over : List Term → List ℕ → List Literal

@@ -1,8 +1,6 @@
 -- A table of literals with the rows of the configurations of a care list in which they are true.
-use Rattle.std.specs.Prelude.{◌≡◌, ◌↔◌, ℕ, ◌+◌, ◌*◌, ◌<◌, ◌⊎◌, Bool, true, false, not, List, [], Contains, Some, map, length, get_or, nat_le, slice_get}
+use Rattle.std.specs.Prelude.{◌≡◌, ℕ, Bool, true, not, List, map}
 use Rattle.std.specs.List.{AllZip}
-use Rattle.std.specs.declared.cmp.Ordering.TheVariants.{Less}
-use Rattle.access_paths.specs.Terms.{IsLiteral, compare_literals}
 use Rattle.access_paths.specs.Trees.{Tree, answer}
 use Rattle.access_paths.specs.Truth.{literal_holds}
 use Rattle.access_paths.specs.declared.term.Literal.{Literal}

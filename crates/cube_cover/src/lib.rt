@@ -3,6 +3,14 @@
 
 mod blocks;
 mod clauses;
+mod cover;
+mod fault;
+mod pairs;
+mod put;
 mod row;
+mod table;
+mod truths;
 
 pub use clauses::care;
+pub use cover::disjuncts;
+pub use fault::CoverFault;

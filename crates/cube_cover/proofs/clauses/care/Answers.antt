@@ -1,4 +1,4 @@
-use Rattle.std.proofs.Common.{rules, arith, length, sym, ap, ◌∙◌}
+use Rattle.std.proofs.Common.{arith, length, sym, ap, ◌∙◌}
 use Rattle.std.proofs.lemmas.List.{take_all}
 use Rattle.case_model.specs.Care.{clauses_hold}
 use Rattle.case_model.specs.Configurations.{by_blocks}

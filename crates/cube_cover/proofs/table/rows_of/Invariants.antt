@@ -1,0 +1,10 @@
+use Rattle.std.proofs.Common.{take}
+use Rattle.std.specs.List.{AllZip}
+use Rattle.cube_cover.specs.Chosen.{configurations_at}
+use Rattle.cube_cover.specs.Rows.{IsRowOf}
+use Rattle.cube_cover.specs.Table.{truths_of}
+use Rattle.cube_cover.proofs.table.rows_of.Given as goal
+
+abbrev pub invariant-each : goal.invariant-each
+invariant-each l =
+    AllZip (λ m row. IsRowOf (truths_of l.terms (configurations_at l.cases l.care) m) row) (take l.literal-index l.literals) l.rows.items
