@@ -11,7 +11,7 @@ use sole_main::read_straight;
 use std::alloc::Global;
 use std::test::Fail;
 
-const SETS: &[u8] = b"class Iterator {
+pub(crate) const SETS: &[u8] = b"class Iterator {
   Set set;
   Version defVer;
   Iterator(Set s) { defVer = s.ver; set = s; }
@@ -52,7 +52,7 @@ fn fits(spec: &CheckedSpec, method: u32, args: &[u32]) -> bool
 }
 
 /// The specification; where memory is wanted, it is read once more.
-fn specification(alloc: Global) -> Result<CheckedSpec, FormFault> {
+pub(crate) fn specification(alloc: Global) -> Result<CheckedSpec, FormFault> {
     match read_specification(alloc, SETS) {
         Err(FormFault::Memory) => read_specification(alloc, SETS),
         read => read,

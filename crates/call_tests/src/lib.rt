@@ -11,6 +11,8 @@ mod heaps;
 #[cfg(test)]
 mod outside;
 #[cfg(test)]
+mod questions;
+#[cfg(test)]
 mod specifications;
 #[cfg(test)]
 mod token_lists;
