@@ -1,5 +1,5 @@
 -- Exact entries: what they say holds in every full heap.
-use Rattle.std.specs.Prelude.{◌≡◌, ℕ, ◌-◌, ◌≤◌, Bool, true, false, not, List, [], All, length, map, Option, Some, None, slice_get, slice_index}
+use Rattle.std.specs.Prelude.{◌≡◌, ℕ, ◌-◌, ◌≤◌, Bool, true, false, not, List, All, length, map, Option, Some, None, slice_get, slice_index}
 use Rattle.std.specs.List.{AllZip, list_any}
 use Rattle.std.specs.Option.{option_map_or}
 use Rattle.easl_model.specs.Conditions.{Condition, condition_of}
@@ -35,7 +35,7 @@ IsExactUpdate form families method m results family ds =
     (heap : List Object) (objects : List ℕ) → IsFull form heap → AreObjects heap (variables_of m (before_call family results)) objects
     → requires_of heap form method (arguments_in m objects) ≡ None
     → (let after = body form method (arguments_in m objects) heap in
-      cube_holds (by_objects after.heap (put results after.result objects)) family.cube.literals)
+    cube_holds (by_objects after.heap (put results after.result objects)) family.cube.literals)
     ≡ list_any (disjunct_holds families heap objects) ds
 
 -- in each full heap the clause is false exactly where a disjunct is true

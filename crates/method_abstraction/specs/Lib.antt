@@ -1,3 +1,4 @@
 pub mod Asking
 pub mod Exact
+pub mod Laws
 pub mod Texts

@@ -1,5 +1,5 @@
 -- The text of an abstraction.
-use Rattle.std.specs.Prelude.{ℕ, suc, ◌+◌, ◌-◌, ◌/◌, ◌%◌, Bool, true, false, ◌==◌, ◌&&◌, List, [], ◌∷◌, ◌++◌, Option, Some, None, if◌then◌else◌, codes, decimal, encode_utf8_all, length, map, nat_lt, slice_get, slice_index}
+use Rattle.std.specs.Prelude.{ℕ, suc, ◌+◌, ◌-◌, ◌/◌, ◌%◌, Bool, false, ◌==◌, ◌&&◌, List, [], ◌∷◌, ◌++◌, if◌then◌else◌, codes, decimal, encode_utf8_all, length, map, nat_lt, slice_get, slice_index}
 use Rattle.std.specs.Cmp.Lexicographic.{pointwise}
 use Rattle.std.specs.List.{flat_map, range_with_len}
 use Rattle.std.specs.Option.{option_map, option_map_or, unwrap_or}
@@ -7,7 +7,6 @@ use Rattle.easl_model.specs.Form.{Form, field_names_of, fields_of}
 use Rattle.access_paths.specs.declared.term.Family.{Family}
 use Rattle.access_paths.specs.declared.term.Literal.{Literal}
 use Rattle.access_paths.specs.declared.term.Term.{Term}
-use Rattle.access_paths.specs.declared.term.Var.{Var}
 use Rattle.method_abstraction.specs.declared.entry.Abstraction.{Abstraction}
 use Rattle.method_abstraction.specs.declared.entry.ClauseFacts.{ClauseFacts}
 use Rattle.method_abstraction.specs.declared.entry.Disjunct.{Disjunct}

@@ -6,7 +6,10 @@ use cv_base::List;
 #[derive(Clone, Copy, Debug, PartialEq, Eq)]
 pub enum Question {
     /// When the clause is false.
-    Clause { method: u32, clause: u32 },
+    Clause {
+        method: u32,
+        clause: u32,
+    },
     /// When the family is true after the method, where its variables at the positions whose bits are set in `results`
     /// stand for the result.
     Update {

@@ -3,5 +3,7 @@
 #![tactic(auto)]
 
 mod entry;
+mod laws;
 
 pub use entry::{Abstraction, ClauseFacts, Disjunct, Question, Update};
+pub use laws::entries_are_exact;

@@ -1,0 +1,9 @@
+//! Laws on entries, as the contracts of functions that do nothing.
+ghost use Rattle.method_abstraction.specs.Laws.{ClausesAreExact, UpdatesAreExact};
+
+/// Where the cubes are together true exactly where the tree is, in each configuration in which all clauses of the
+/// method are true, the disjuncts that say what the cubes say are exact; for a clause, in each configuration.
+pub fn entries_are_exact()
+    ensures updates { UpdatesAreExact }
+    ensures clauses { ClausesAreExact }
+{}
