@@ -11,6 +11,7 @@ use Rattle.std.proofs.lemmas.Cmp.{tied_itself}
 use Rattle.std.proofs.lemmas.Option.{get_or_from_slice_get, slice_get_within, slice_get-get_or}
 use Rattle.std.proofs.lemmas.Slice.Zip.{AllZip-long}
 use Rattle.easl_model.specs.Form.{Form, fields_of}
+use Rattle.easl_model.proofs.FormsInRange.{zip_at}
 use Rattle.easl_heap.specs.Full.{FieldsLead}
 use Rattle.easl_heap.proofs.FormFields.{zip_from}
 use Rattle.access_paths.specs.Fitting.{IsTermOf}
@@ -22,12 +23,6 @@ use Rattle.case_model.specs.TermLists.{AreTermsOf, IsTermList}
 use Rattle.alias_cases.specs.Steps.{AreSteps, IsClosed, IsStepTo}
 use Rattle.alias_cases.specs.declared.steps.Step.{Step}
 use Rattle.alias_cases.proofs.Arranged.{IsArranged, IsLadder}
-
-pub zip_back : {A B : Type 0} (R : A → B → Type 0) (xs : List A) (ys : List B) (k : ℕ) (y : B) → AllZip R xs ys → slice_get ys k ≡ Some y → (x : A) × (slice_get xs k ≡ Some x) × R x y
-zip_back R xs [] k y zip at = absurd (cc)
-zip_back R [] (z ∷ ys) k y zip at = absurd zip
-zip_back R (x ∷ xs) (z ∷ ys) zero y zip at = (x, refl, subst (λ b. R x b) (let e : z ≡ y = cc in e) zip.0)
-zip_back R (x ∷ xs) (z ∷ ys) (suc k) y zip at = zip_back R xs ys k y zip.1 at
 
 parted : (xs ys : List ℕ) (a b : ℕ) → xs ++ a ∷ [] ≡ ys ++ b ∷ [] → (xs ≡ ys) × (a ≡ b)
 parted [] [] a b e = (refl, cc)
@@ -144,7 +139,7 @@ module _ (ts : List Term) (classes : List ℕ) (is : IsTermList ts classes) (ste
 
   step_from : (k : ℕ) (s : Step) → slice_get steps k ≡ Some (Some s) → From k s
   step_from k s at =
-      let t = zip_back (IsStepTo ts) ts steps k (Some s) are at in
+      let t = zip_at (IsStepTo ts) ts steps k (Some s) are at in
       record { shorter = t.2.0; at = t.2.1; longer_at = t.1 ∙ ap Some t.2.2 }
 
   -- the step to a term that has a field

@@ -6,3 +6,9 @@ pub mod Lists
 pub mod Open
 pub mod Whole
 pub mod Turns
+pub mod Gathered
+pub mod OfTests
+pub mod Plain
+pub mod Long
+pub mod Typed
+pub mod Asked

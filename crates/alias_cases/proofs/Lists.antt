@@ -74,3 +74,12 @@ module _ {X : Type 0} where
   pub rises-pairs : (R : X → X → Type 0) (xs : List X) → Rises R xs → AllPairs R xs
   rises-pairs R [] up = λ i j d before within. absurd (omega arith)
   rises-pairs R (x ∷ xs) up = AllPairs-cons R x xs (all-each (R x) xs up.0) (rises-pairs R xs up.1)
+
+  pub pairs-rises : (R : X → X → Type 0) (xs : List X) → AllPairs R xs → Rises R xs
+  pairs-rises R [] pairs = tt
+  pairs-rises R (x ∷ xs) pairs = (
+    each-from (R x) xs (λ y h.
+      let has = in-contains xs y h in
+      subst (R x) has.2 (pairs 0 (suc has.0) y (omega arith) (omega (arith, has.1)))),
+    pairs-rises R xs (λ i j d before within. pairs (suc i) (suc j) d (omega arith) (omega arith)),
+  )

@@ -5,6 +5,7 @@ use Rattle.std.specs.Cmp.Lexicographic.{slice_cmp}
 use Rattle.std.specs.Ordering.{nat_cmp}
 use Rattle.std.specs.declared.cmp.Ordering.TheVariants.{Less}
 use Rattle.std.proofs.lemmas.Cmp.{nat_list_cmp_total, tied_itself}
+use Rattle.easl_model.proofs.Standing.{item_at}
 use Rattle.access_paths.specs.declared.term.Term.{Term}
 use Rattle.case_model.specs.Configurations.{AreConfigurations, AreMoreThan, IsConfiguration}
 use Rattle.case_model.specs.TermLists.{IsTermList}
@@ -15,11 +16,6 @@ use Rattle.alias_cases.proofs.Arranged.{IsArranged, IsBefore, IsLevel}
 use Rattle.alias_cases.proofs.Ladders.{arranged-is, as_many_steps, is-arranged, ladder}
 use Rattle.alias_cases.proofs.Levels.{level_more, level_next}
 use Rattle.alias_cases.proofs.Lists.{all-each, contains-in, each-from, each-in, in-contains, rises-pairs}
-
-item_at : {X : Type 0} (xs : List X) (i : ℕ) → i < length xs → (x : X) × (slice_get xs i ≡ Some x)
-item_at [] i h = absurd (omega arith)
-item_at (x ∷ xs) zero h = (x, refl)
-item_at (x ∷ xs) (suc i) h = item_at xs i (omega arith)
 
 module _ (ts : List Term) (classes : List ℕ) (is : IsTermList ts classes) (steps : List (Option Step)) (are : AreSteps ts steps) where
   pub level_whole : (level : List (List ℕ)) → IsLevel steps classes (length ts) level → AreConfigurations ts classes level

@@ -1,2 +1,5 @@
+pub mod Classes
+pub mod Gathering
 pub mod Levels
+pub mod Short
 pub mod Steps

@@ -1,10 +1,15 @@
 //! The configurations of a question's terms.
 #![tactic(auto)]
 
+mod asking;
 mod case;
+mod classes;
+mod clauses;
 mod fitting;
+mod gathering;
 mod listing;
 mod steps;
 
+pub use asking::terms;
 pub use case::{Cases, CasesFault, Terms};
 pub use listing::configurations;
