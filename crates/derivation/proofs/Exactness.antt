@@ -49,21 +49,24 @@ module _ (ts : List Term) (care : List (List ℕ)) (tree : Tree) (cubes : List C
             (
               e,
               all_members (λ c. ¬ IsTrueAt ts care tree c bs) cubes (λ c there is.
-                  let yes : one_holds (by_blocks ts bs) cubes ≡ true = list_any-from_Any (λ c. cube_holds (by_blocks ts bs) c.literals) cubes (there.0, c, there.1, there.2, is) in
+                  let yes : one_holds (by_blocks ts bs) cubes ≡ true =
+                  list_any-from_Any (λ c. cube_holds (by_blocks ts bs) c.literals) cubes (there.0, c, there.1, there.2, is) in
                   cc),
             ),
           ))
       by false e true f =
           let one = Any-from_list_any (λ c. cube_holds (by_blocks ts bs) c.literals) cubes f in
           let of = ((chosen.are one.1).0 (one.0, one.2, one.3)).0 in
-          let so : answer (by_blocks ts bs) tree ≡ true = subst (λ x. IsTrueAt ts care tree one.1 x → answer (by_blocks ts x) tree ≡ true) has.2 (of.implicant.none has.0 bs has.1) one.4 in
+          let so : answer (by_blocks ts bs) tree ≡ true =
+          subst (λ x. IsTrueAt ts care tree one.1 x → answer (by_blocks ts x) tree ≡ true) has.2 (of.implicant.none has.0 bs has.1) one.4 in
           absurd (cc)
 
   pub over_list : All (λ c. HasTerms ts (terms_of_cube c.literals)) cubes
   over_list = all_members (λ c. HasTerms ts (terms_of_cube c.literals)) cubes (λ c has. ((chosen.are c).0 has).0.implicant.over)
 
   -- numbered predicates say what the cubes say
-  pub numbered_same : (classes : List ℕ) (families : List Family) (cs : List Cube) (ps : List Predicate) (ds : List Disjunct) → ((c : Cube) → Contains cs c → Contains cubes c)
+  pub numbered_same : (classes : List ℕ) (families : List Family) (cs : List Cube) (ps : List Predicate) (ds : List Disjunct)
+      → ((c : Cube) → Contains cs c → Contains cubes c)
       → AllZip (IsPredicateOf classes) cs ps → AllZip (IsNumbered families) ps ds → AllZip (SaysSame families) cs ds
   numbered_same classes families [] [] [] among are numbered = tt
   numbered_same classes families [] [] (d ∷ ds) among are numbered = absurd numbered
@@ -81,7 +84,9 @@ module _ (ts : List Term) (care : List (List ℕ)) (tree : Tree) (cubes : List C
       by (Of i) disjunct.Always is number heap objects = absurd number
       by (Of i) (disjunct.Of n vars) is number heap objects =
           ap (λ vs. disjunct_holds families heap objects (disjunct.Of n vs)) number.1
-          ∙ ap (λ o. option_map_or (λ (f : Family). cube_holds (by_objects heap (map (λ v. slice_index objects v.0) i.args)) f.cube.literals) o false) number.0
+          ∙ ap
+          (λ o. option_map_or (λ (f : Family). cube_holds (by_objects heap (map (λ v. slice_index objects v.0) i.args)) f.cube.literals) o false)
+          number.0
           ∙ sym (family_keeps_truth heap objects c classes i ((chosen.are c).0 (among c (head_member c cs))).0.implicant.cube is.1.instance)
 
 -- what passes a test is kept
@@ -89,7 +94,8 @@ in_filter : {X : Type 0} (test : X → Bool) (xs : List X) (x : X) → Contains 
 in_filter test [] x has pass = absurd (omega (arith, has.1))
 in_filter test (y ∷ xs) x has pass =
     ⊎_elim
-    (λ (e : y ≡ x). subst (λ b. Contains (cond b (y ∷ filter test xs) (filter test xs)) x) (sym (ap test e ∙ pass)) (subst (Contains (y ∷ filter test xs)) e (head_member y (filter test xs))))
+    (λ (e : y ≡ x). subst (λ b. Contains (cond b (y ∷ filter test xs) (filter test xs)) x) (sym (ap test e ∙ pass))
+    (subst (Contains (y ∷ filter test xs)) e (head_member y (filter test xs))))
     (λ (h : Contains xs x). by (test y) (in_filter test xs x h pass))
     (which_member y xs x has)
   where
@@ -102,13 +108,15 @@ clause_replies_are_exact form m clause r families ds reply numbered =
     let tree = reply.0 in
     let is = reply.2 in
     let list = is.cases.list in
-    let asked : HasTerms is.ts (terms_of_tree tree) = subst (HasTerms is.ts) (append-nil (terms_of_tree tree)) (asked_are_there (terms_asked m tree false) is.ts list.terms) in
+    let asked : HasTerms is.ts (terms_of_tree tree) =
+    subst (HasTerms is.ts) (append-nil (terms_of_tree tree)) (asked_are_there (terms_asked m tree false) is.ts list.terms) in
     clauses_are_exact form families m clause is.ts is.classes tree is.cubes ds
     (record {
       typed = list.typed;
       asked = asked;
       over = over_list is.ts is.all tree is.cubes is.chosen is.covers;
-      same = numbered_same is.ts is.all tree is.cubes is.chosen is.covers (classes_by_number m None) families is.cubes r.disjuncts ds (λ c has. has) is.disjuncts numbered;
+      same = numbered_same is.ts is.all tree is.cubes is.chosen is.covers (classes_by_number m None)
+          families is.cubes r.disjuncts ds (λ c has. has) is.disjuncts numbered;
     })
     (clause_law form most m clause tree reply.1)
     (λ bs one. decides is.ts is.all tree is.cubes is.chosen is.covers bs ((is.cases.whole.holds bs).1 one))
@@ -127,8 +135,10 @@ update_replies_are_exact form n m family results r families ds checked at fits r
       typed = classes_before form m family results (terms_asked m tree true) ts is.classes list.terms typed list.typed;
       asked = λ t has. there t (Contains-append_left (terms_of_tree tree) (terms_of_clauses m) t has);
       over = over_list ts care tree is.cubes is.chosen is.covers;
-      same = numbered_same ts care tree is.cubes is.chosen is.covers (classes_by_number m (Some family)) families is.cubes r.disjuncts ds (λ c has. has) is.disjuncts numbered;
+      same = numbered_same ts care tree is.cubes is.chosen is.covers (classes_by_number m (Some family))
+          families is.cubes r.disjuncts ds (λ c has. has) is.disjuncts numbered;
     })
     (λ t has. there t (Contains-append_right (terms_of_tree tree) (terms_of_clauses m) t has))
     (update_law form most m family results tree fits reply.1)
-    (λ bs one hold. decides ts care tree is.cubes is.chosen is.covers bs (in_filter (λ cs. clauses_hold m (by_blocks ts cs)) is.all bs ((is.cases.whole.holds bs).1 one) hold))
+    (λ bs one hold. decides ts care tree is.cubes is.chosen is.covers bs
+    (in_filter (λ cs. clauses_hold m (by_blocks ts cs)) is.all bs ((is.cases.whole.holds bs).1 one) hold))

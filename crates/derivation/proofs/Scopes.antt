@@ -17,7 +17,8 @@ use Rattle.case_model.proofs.Clauses.{clauses_have_classes}
 use Rattle.question_model.specs.Asked.{AsksTerms}
 
 -- the terms that a tree asks have classes
-pub tree_typed : (form : Form) (most : Option ℕ) (variables : List (Option ℕ)) (tree : Tree) → AsksTerms form most variables tree → AreTyped form variables (terms_of_tree tree)
+pub tree_typed : (form : Form) (most : Option ℕ) (variables : List (Option ℕ)) (tree : Tree) → AsksTerms form most variables tree
+    → AreTyped form variables (terms_of_tree tree)
 tree_typed form most variables (Leaf b) asks t has = absurd (omega (arith, has.1))
 tree_typed form most variables (Ask u v x y) asks t has =
     ⊎_elim
@@ -42,21 +43,24 @@ known_before m family results v start = by v
     kept true class h = absurd (cc)
     kept false class h = h
 
-    by : (v : ℕ) → slice_get (variables_of m (before_call family results)) v ≡ Some (Some start) → slice_get (question_variables m (Some family)) v ≡ Some (Some start)
+    by : (v : ℕ) → slice_get (variables_of m (before_call family results)) v ≡ Some (Some start)
+        → slice_get (question_variables m (Some family)) v ≡ Some (Some start)
     by zero h = kept (results % 2 == 1) (slice_get family.classes 0) h
     by (suc zero) h = kept (results / 2 % 2 == 1) (slice_get family.classes 1) h
     by (suc (suc zero)) h = kept (results / 2 / 2 % 2 == 1) (slice_get family.classes 2) h
     by (suc (suc (suc v))) h = h
 
 -- the terms that a question asks before the call are terms of its variables
-pub typed_before : (form : Form) (m : Method) (family : Family) (results : ℕ) (asked : List Term) → AreTyped form (variables_of m (before_call family results)) asked
+pub typed_before : (form : Form) (m : Method) (family : Family) (results : ℕ) (asked : List Term)
+    → AreTyped form (variables_of m (before_call family results)) asked
     → AreTyped form (question_variables m (Some family)) asked
 typed_before form m family results asked typed t has =
     let of = typed t has in
     (of.0, record { start = of.1.start; variable = known_before m family results t.var.0 of.1.start of.1.variable; leads = of.1.leads })
 
 -- what holds of each pair holds too where more is known of the first ones
-zip_more : {X Y : Type 0} (P Q : X → Y → Type 0) (xs : List X) (ys : List Y) → ((x : X) (y : Y) → Contains xs x → P x y → Q x y) → AllZip P xs ys → AllZip Q xs ys
+zip_more : {X Y : Type 0} (P Q : X → Y → Type 0) (xs : List X) (ys : List Y) → ((x : X) (y : Y) → Contains xs x → P x y → Q x y)
+    → AllZip P xs ys → AllZip Q xs ys
 zip_more P Q [] [] so all = tt
 zip_more P Q [] (y ∷ ys) so all = absurd all
 zip_more P Q (x ∷ xs) [] so all = absurd all
@@ -67,21 +71,26 @@ pub classes_before : (form : Form) (m : Method) (family : Family) (results : ℕ
     → AreTyped form (variables_of m (before_call family results)) asked → HaveClasses form (question_variables m (Some family)) ts classes
     → HaveClasses form (variables_of m (before_call family results)) ts classes
 classes_before form m family results asked ts classes are typed have =
-    zip_more (IsTermOf form (question_variables m (Some family))) (IsTermOf form (variables_of m (before_call family results))) ts classes (λ t class has is. known t class has is) have
+    zip_more (IsTermOf form (question_variables m (Some family))) (IsTermOf form (variables_of m (before_call family results))) ts classes
+    (λ t class has is. known t class has is) have
   where
-    known : (t : Term) (class : ℕ) → Contains ts t → IsTermOf form (question_variables m (Some family)) t class → IsTermOf form (variables_of m (before_call family results)) t class
+    known : (t : Term) (class : ℕ) → Contains ts t → IsTermOf form (question_variables m (Some family)) t class
+        → IsTermOf form (variables_of m (before_call family results)) t class
     known t class has is =
         let from = (are.holds t).0 has in
         let u = from.0 in
         let of = (typed u from.1).1 in
         let same : t.var.0 ≡ u.var.0 = ap (λ v. v.0) from.2.0 in
-        let there : slice_get (variables_of m (before_call family results)) t.var.0 ≡ Some (Some of.start) = ap (slice_get (variables_of m (before_call family results))) same ∙ of.variable in
+        let there : slice_get (variables_of m (before_call family results)) t.var.0 ≡ Some (Some of.start) =
+        ap (slice_get (variables_of m (before_call family results))) same ∙ of.variable in
         let one : Some (Some of.start) ≡ Some (Some is.start) = sym (known_before m family results t.var.0 of.start there) ∙ is.variable in
         record { start = is.start; variable = there ∙ one; leads = is.leads }
 
 -- what an update question asks are terms before the call
-pub update_typed : (form : Form) (n : ℕ) (m : Method) (family : Family) (results : ℕ) (most : Option ℕ) (tree : Tree) → IsChecked form → slice_get form.methods n ≡ Some m
-    → AsksTerms form most (variables_of m (before_call family results)) tree → AreTyped form (variables_of m (before_call family results)) (terms_asked m tree true)
+pub update_typed : (form : Form) (n : ℕ) (m : Method) (family : Family) (results : ℕ) (most : Option ℕ) (tree : Tree) → IsChecked form
+    → slice_get form.methods n ≡ Some m
+    → AsksTerms form most (variables_of m (before_call family results)) tree
+    → AreTyped form (variables_of m (before_call family results)) (terms_asked m tree true)
 update_typed form n m family results most tree checked at asks t has =
     ⊎_elim
     (λ (h : Contains (terms_of_tree tree) t). tree_typed form most (variables_of m (before_call family results)) tree asks t h)
