@@ -6,6 +6,7 @@ use Rattle.easl_model.specs.Form.{Form, field_names_of, fields_of}
 use Rattle.access_paths.specs.declared.term.Family.{Family}
 use Rattle.access_paths.specs.declared.term.Literal.{Literal}
 use Rattle.access_paths.specs.declared.term.Term.{Term}
+use Rattle.access_paths.specs.declared.term.Var.{Var}
 use Rattle.method_abstraction.specs.declared.entry.Abstraction.{Abstraction}
 use Rattle.method_abstraction.specs.declared.entry.ClauseFacts.{ClauseFacts}
 use Rattle.method_abstraction.specs.declared.entry.Disjunct.{Disjunct}
