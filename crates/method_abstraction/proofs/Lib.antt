@@ -1,4 +1,5 @@
 pub mod Asked
 pub mod Entries
+pub mod Exactness
 pub mod Joined
 pub mod Names

@@ -10,5 +10,5 @@ mod terms;
 
 pub use asking::{clause_questions, update_questions};
 pub use entry::{Abstraction, ClauseFacts, Disjunct, Question, Update};
-pub use laws::entries_are_one_each;
+pub use laws::{entries_are_exact, entries_are_one_each};
 pub use print::print_abstraction;
