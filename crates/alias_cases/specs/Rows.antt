@@ -22,13 +22,17 @@ abbrev pub case_count : Rows → ℕ
 case_count rows = rows.count
 
 -- the rows of these literals in these configurations
-pub record AreRowsOf (cases : Cases) (literals : List Literal) (rows : Rows) : Type 0 where
-  pub count : case_count rows ≡ length cases.list
-  pub rows : AllZip (λ l row. IsRowOf (truths_of cases l) row) literals rows.rows.items
+pub record AreRowsOf (cases : Cases) (literals : List Literal) (table : Rows) : Type 0 where
+  pub count : case_count table ≡ length cases.list
+  pub rows : AllZip (λ l row. IsRowOf (truths_of cases l) row) literals table.rows.items
 
 -- whether the literal of this number is true in the configuration of this number
 abbrev pub is_true_at : Cases → List Literal → ℕ → ℕ → Bool
 is_true_at cases literals number k = option_map_or (literal_holds (by_blocks cases.terms.list (get_or cases.list k []))) (slice_get literals number) false
+
+-- the bit is set in the rows of all these numbers
+abbrev pub AreAllSet : List (List ℕ) → List ℕ → ℕ → ℕ → Type 0
+AreAllSet rows numbers word bit = All (λ n. IsSet (get_or rows n []) word bit) numbers
 
 -- the bit of configuration k is set
 abbrev pub IsChosen : List ℕ → ℕ → Type 0

@@ -1,17 +1,15 @@
 //! Rows of bits: in which configurations each literal is true.
-ghost use Rattle.std.specs.Prelude.{◌≡◌, ◌↔◌, ℕ, ◌<◌, ◌≤◌, true, List, [], All, get_or, length, slice_index, IfOk};
-ghost use Rattle.std.specs.List.{AllZip, fold};
+ghost use Rattle.std.specs.Prelude.{◌≡◌, ◌↔◌, ◌==◌, ℕ, ◌<◌, ◌≤◌, not, true, List, [], ◌∷◌, ◌++◌, All, if◌then◌else◌, length, slice_index, IfOk, OnOk};
 ghost use Rattle.std.specs.Int.{bit_at};
-ghost use Rattle.access_paths.specs.Truth.{literal_holds};
 ghost use Rattle.access_paths.specs.declared.term.Literal.{Literal};
 ghost use Rattle.case_model.specs.Configurations as list;
-ghost use Rattle.case_model.specs.Configurations.{AreConfigurations, by_blocks};
+ghost use Rattle.case_model.specs.Configurations.{AreConfigurations};
 ghost use Rattle.case_model.specs.TermLists.{HasTerms, terms_of_cube};
-ghost use Rattle.cube_search.specs.Truths.{IsRowOf};
 ghost use Rattle.alias_cases.specs.declared.case.Cases.{Cases};
-ghost use Rattle.alias_cases.specs.Rows.{AreMet, AreRowsOf, IsChosen, case_count, is_true_at, left_of, literal_count, truths_of};
+ghost use Rattle.alias_cases.specs.Rows.{AreAllSet, AreMet, AreRowsOf, IsChosen, case_count, is_true_at, literal_count, truths_of};
 
 use crate::case::Cases;
+use crate::fitting::block_at;
 use access_paths::{Literal, Term};
 use cube_search::{Row, row_of};
 use cv_base::Memory;
@@ -39,7 +37,7 @@ impl Rows {
         'each: for literal in literals {
             let truths = truths_of(alloc, cases, literal)?;
             let row = row_of(alloc, &truths)?;
-            rows.push(row).map_err(|_| Memory)?;
+            put_row(&mut rows, row)?;
         }
         Ok(Rows {
             rows,
@@ -74,10 +72,20 @@ impl Rows {
     }
 }
 
+/// Puts a row at the end.
+fn put_row(rows: &mut Vec<Row>, row: Row) -> Result<(), Memory>
+    ensures { OnOk result (rows.new.items ≡ rows.old.items ++ row ∷ []) }
+{
+    match rows.push(row) {
+        Ok(()) => Ok(()),
+        Err(_) => Err(Memory),
+    }
+}
+
 /// Of these bits of a word those that are set in the rows of all these literals.
 fn left_of(rows: &[Row], literals: &[u32], word: usize, bits: u64) -> u64
     requires { All (λ n. n < length rows.now) literals.now }
-    ensures { result ≡ left_of rows.now word bits literals.now }
+    ensures { (bit : ℕ) → bit_at result bit ≡ 1 ↔ ((bit_at bits bit ≡ 1) × AreAllSet rows.now literals.now word bit) }
 {
     let mut left = bits;
     'each: for literal in literals {
@@ -117,28 +125,21 @@ fn truths_of(alloc: Global, cases: &Cases, literal: &Literal) -> Result<Vec<bool
 
 /// Whether a literal between the terms at these places is true.
 fn is_true(blocks: &[u32], less: usize, more: usize, same: bool) -> bool
-    ensures { result ≡ is_true blocks.now less more same }
+    ensures { result ≡ (if same then slice_index blocks.now less == slice_index blocks.now more else not (slice_index blocks.now less == slice_index blocks.now more)) }
 {
     let joined = block_at(blocks, less) == block_at(blocks, more);
     joined == same
 }
 
-/// The block at a place, 0 where there is none.
-fn block_at(blocks: &[u32], place: usize) -> u32
-    ensures { result ≡ slice_index blocks.now place }
-{
-    match blocks.get(place) {
-        Some(block) => *block,
-        None => 0,
-    }
-}
-
 /// Where the term stands; the length of the list where it does not.
+#[tactic(auto, using(std::proofs::lemmas::List::drop_more))]
 fn place_of(terms: &[Term], term: &Term) -> usize
     ensures { result ≡ list.place_of terms.now term.now }
 {
-    match terms.iter().position(|other| term.compare(other).is_eq()) {
-        Some(place) => place,
-        None => terms.len(),
+    'each: for (place, other) in terms.iter().enumerate() {
+        if term.compare(other).is_eq() {
+            return place;
+        }
     }
+    terms.len()
 }
