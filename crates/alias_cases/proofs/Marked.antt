@@ -1,5 +1,5 @@
 -- What the bits of rows tell of literals and configurations.
-use Rattle.std.proofs.Common.{◌≡◌, ◌↔◌, ◌⊎◌, ℕ, zero, suc, ◌+◌, ◌*◌, ◌/◌, ◌%◌, ◌^◌, ◌<◌, ◌≤◌, ◌==◌, Bool, true, false, List, [], ◌∷◌, length, get_or, map, take, min, All, Some, refl, ap, sym, subst, ◌∙◌, ⊎_elim, arith, bit_and, eq-or-lt_of_le}
+use Rattle.std.proofs.Common.{◌≡◌, ◌↔◌, ℕ, zero, suc, ◌+◌, ◌*◌, ◌/◌, ◌%◌, ◌^◌, ◌<◌, ◌≤◌, ◌==◌, Bool, true, false, List, [], ◌∷◌, length, get_or, map, take, min, All, Some, refl, ap, sym, subst, ◌∙◌, ⊎_elim, arith, bit_and, eq-or-lt_of_le}
 use Rattle.std.specs.Prelude.{slice_get, slice_index}
 use Rattle.std.specs.Int.{bit_at}
 use Rattle.std.specs.Int.Bits.{and_zero_r}
@@ -143,7 +143,7 @@ none_more rows numbers chosen words left is_zero tells before k below is all =
     ⊎_elim
     (λ (e : k / 64 ≡ words).
     let set : bit_at left (k % 64) ≡ 1 = (tells (k % 64)).1
-        (subst (λ w. bit_at (slice_index chosen w) (k % 64) ≡ 1) e is, subst (λ w. AreAllSet rows numbers w (k % 64)) e all) in
+    (subst (λ w. bit_at (slice_index chosen w) (k % 64) ≡ 1) e is, subst (λ w. AreAllSet rows numbers w (k % 64)) e all) in
     omega (arith, ap (λ n. bit_at n (k % 64)) (sym is_zero) ∙ set, bit_at-zero (k % 64)))
     (λ (l : k / 64 < words). before k l is all)
     (eq-or-lt_of_le (let most : k / 64 ≤ words = omega (arith, below) in most))
@@ -171,11 +171,14 @@ pub some_met : (cases : Cases) (literals : List Literal) (rows : Rows) (numbers 
     → All (λ n. n < literal_count rows) numbers → ((k : ℕ) → IsChosen chosen k → k < case_count rows) → left < 2 ^ 64 → (left ≡ 0 → ⊥)
     → ((bit : ℕ) → bit_at left bit ≡ 1 ↔ ((bit_at (slice_index chosen word) bit ≡ 1) × AreAllSet rows.rows.items numbers word bit))
     → AreMet cases literals numbers chosen
-some_met cases literals rows numbers chosen word left of range last below some tells =
-    (k, subst (λ m. k < m) of.count within, chosen_so,
-    λ i d h. (bit_true cases literals rows (get_or numbers i d) k of (range i d h) within).0
-    (subst (λ w. IsSet (get_or rows.rows.items (get_or numbers i d) []) w (k % 64)) (sym at_word)
-    (subst (λ b. IsSet (get_or rows.rows.items (get_or numbers i d) []) word b) (sym at_bit) (set.1 i d h))))
+some_met cases literals rows numbers chosen word left of range last below some tells = (
+  k,
+  subst (λ m. k < m) of.count within,
+  chosen_so,
+  λ i d h. (bit_true cases literals rows (get_or numbers i d) k of (range i d h) within).0
+      (subst (λ w. IsSet (get_or rows.rows.items (get_or numbers i d) []) w (k % 64)) (sym at_word)
+      (subst (λ b. IsSet (get_or rows.rows.items (get_or numbers i d) []) word b) (sym at_bit) (set.1 i d h))),
+)
   where
     found : (bit : ℕ) × (bit < 64) × (bit_at left bit ≡ 1)
     found = some_bit left below some
