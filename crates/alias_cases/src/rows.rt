@@ -125,7 +125,8 @@ fn truths_of(alloc: Global, cases: &Cases, literal: &Literal) -> Result<Vec<bool
 
 /// Whether a literal between the terms at these places is true.
 fn is_true(blocks: &[u32], less: usize, more: usize, same: bool) -> bool
-    ensures { result ≡ (if same then slice_index blocks.now less == slice_index blocks.now more else not (slice_index blocks.now less == slice_index blocks.now more)) }
+    ensures { result ≡ (if same then slice_index blocks.now less == slice_index blocks.now more
+        else not (slice_index blocks.now less == slice_index blocks.now more)) }
 {
     let joined = block_at(blocks, less) == block_at(blocks, more);
     joined == same
