@@ -12,3 +12,4 @@ pub mod Plain
 pub mod Long
 pub mod Typed
 pub mod Asked
+pub mod Marked

@@ -3,3 +3,4 @@ pub mod Gathering
 pub mod Levels
 pub mod Short
 pub mod Steps
+pub mod Rows

@@ -79,8 +79,8 @@ fn number_after(number: u32) -> Result<u32, AllocError>
     number.checked_add(1).ok_or(AllocError)
 }
 
-/// The block at a place.
-fn block_at(blocks: &[u32], place: usize) -> u32
+/// The block at a place, 0 where there is none.
+pub(crate) fn block_at(blocks: &[u32], place: usize) -> u32
     ensures { result ≡ slice_index blocks.now place }
 {
     match blocks.get(place) {

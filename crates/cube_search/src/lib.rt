@@ -4,7 +4,9 @@
 mod choosing;
 mod row;
 mod searching;
+mod setting;
 
 pub use choosing::{Choice, disjuncts};
 pub use row::Row;
 pub use searching::{Candidate, Cube, Task};
+pub use setting::row_of;
