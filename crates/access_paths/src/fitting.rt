@@ -16,7 +16,9 @@ pub fn fits(spec: &CheckedSpec, family: &Family) -> bool
     !classes.is_empty()
         && classes.len() <= 3
         && are_there(spec, classes)
-        && literals.iter().all(|literal| is_over(spec, classes, literal))
+        && literals
+            .iter()
+            .all(|literal| is_over(spec, classes, literal))
 }
 
 /// Whether the classes are there.
@@ -31,7 +33,10 @@ fn are_there(spec: &CheckedSpec, classes: &[u32]) -> bool
 fn is_over(spec: &CheckedSpec, classes: &[u32], literal: &Literal) -> bool
     ensures { IsTrue result → IsLiteralOf spec.now (map (λ c. Some c) classes.now) literal.now }
 {
-    match (class_of(spec, classes, &literal.less), class_of(spec, classes, &literal.more)) {
+    match (
+        class_of(spec, classes, &literal.less),
+        class_of(spec, classes, &literal.more),
+    ) {
         (Some(less), Some(more)) => less == more,
         _ => false,
     }

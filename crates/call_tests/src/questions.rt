@@ -185,6 +185,8 @@ fn a_stale_receiver_is_a_stale_iterator(rt: HostRuntime) -> Result<(), Fail> {
         assert!(rt; false, "one literal");
         return Ok(());
     };
-    assert!(rt; !literal.same && is_term(&literal.less, 0, &[1]) && is_term(&literal.more, 0, &[0, 0]));
+    assert!(rt;
+        !literal.same && is_term(&literal.less, 0, &[1]) && is_term(&literal.more, 0, &[0, 0])
+    );
     Ok(())
 }

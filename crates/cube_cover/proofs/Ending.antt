@@ -20,7 +20,7 @@ use Rattle.cube_search.proofs.Carried.{Stands}
 use Rattle.cube_search.proofs.Literals.{IsTable, Precedes, chosen_literals, stands}
 use Rattle.cube_cover.specs.Chosen.{AreTogether, configurations_at}
 use Rattle.cube_cover.specs.Literals.{cube_of, cubes_of, literals_over, none_such}
-use Rattle.cube_cover.specs.Rows.{IsRowOf}
+use Rattle.cube_search.specs.Truths.{IsRowOf}
 use Rattle.cube_cover.specs.Table.{IsTaskOf, everywhere}
 use Rattle.cube_cover.proofs.Few.{cube, is_few}
 use Rattle.cube_cover.proofs.Named.{contains_in, each_get, get_each, in_contains}

@@ -1,4 +1,3 @@
-pub mod Bits
 pub mod Caring
 pub mod Ending
 pub mod Few

@@ -23,7 +23,7 @@ use Rattle.cube_search.specs.declared.searching.Task.{Task}
 use Rattle.cube_search.proofs.Lists.{each-from, each-in}
 use Rattle.cube_search.proofs.Literals.{IsTable}
 use Rattle.cube_cover.specs.Literals.{literals_over, none_such}
-use Rattle.cube_cover.specs.Rows.{IsRowOf}
+use Rattle.cube_search.specs.Truths.{IsRowOf}
 use Rattle.cube_cover.specs.Table.{IsTaskOf, everywhere}
 use Rattle.cube_cover.proofs.Few.{few_less, few_same, is_few}
 use Rattle.cube_cover.proofs.Listed.{IsLessTerm, over_in, over_parts, over_rises}

@@ -1,4 +1,3 @@
 pub mod Chosen
 pub mod Literals
-pub mod Rows
 pub mod Table

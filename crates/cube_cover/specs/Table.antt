@@ -7,7 +7,7 @@ use Rattle.access_paths.specs.declared.term.Literal.{Literal}
 use Rattle.access_paths.specs.declared.term.Term.{Term}
 use Rattle.case_model.specs.Configurations.{by_blocks}
 use Rattle.cube_search.specs.declared.searching.Task.{Task}
-use Rattle.cube_cover.specs.Rows.{IsRowOf}
+use Rattle.cube_search.specs.Truths.{IsRowOf}
 
 -- where a literal is true
 abbrev pub truths_of : List Term → List (List ℕ) → Literal → List Bool

@@ -7,7 +7,6 @@ mod cover;
 mod fault;
 mod pairs;
 mod put;
-mod row;
 mod table;
 mod truths;
 

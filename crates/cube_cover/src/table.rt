@@ -3,14 +3,13 @@ ghost use Rattle.std.specs.Prelude.{◌≡◌, map, IfOk};
 ghost use Rattle.std.specs.List.{AllZip};
 ghost use Rattle.access_paths.specs.Trees.{tree_of};
 ghost use Rattle.cube_cover.specs.Chosen.{configurations_at};
-ghost use Rattle.cube_cover.specs.Rows.{IsRowOf};
+ghost use Rattle.cube_search.specs.Truths.{IsRowOf};
 ghost use Rattle.cube_cover.specs.Table.{IsTaskOf, everywhere, truths_of};
 
 use crate::put::put_last;
-use crate::row::row_of;
 use crate::truths::{answers_of, everywhere, opposite, truths_of};
 use access_paths::{Literal, Term, Tree};
-use cube_search::{Row, Task};
+use cube_search::{Row, Task, row_of};
 use cv_base::Memory;
 use sqlite_items::Items;
 use std::alloc::Global;
