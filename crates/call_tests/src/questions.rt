@@ -179,8 +179,8 @@ fn a_stale_receiver_is_a_stale_iterator(rt: HostRuntime) -> Result<(), Fail> {
         assert!(rt; false, "a family");
         return Ok(());
     };
-    assert_eq!(rt; instance.args.as_slice(), &[Var(3)]);
-    assert_eq!(rt; instance.family.classes.as_slice(), &[0]);
+    assert_eq!(rt; instance.args.as_slice(), [Var(3)].as_slice());
+    assert_eq!(rt; instance.family.classes.as_slice(), [0].as_slice());
     let [literal] = instance.family.cube.literals.as_slice() else {
         assert!(rt; false, "one literal");
         return Ok(());
