@@ -1,6 +1,6 @@
 -- What a cut goes on with behind a known front, and that a text has at most one.
-use Rattle.std.proofs.Common.{◌≡◌, ℕ, ◌+◌, ◌<◌, ◌≤◌, List, [], ◌∷◌, ◌++◌, length, All, chars, encode_utf8_all, IsUtf8, arith, append_assoc, length-append, refl, sym, ap, ◌∙◌, subst}
-use Rattle.std.proofs.lemmas.List.{append_cancel_left}
+use Rattle.std.proofs.Common.{◌≡◌, ◌≢◌, ℕ, ◌+◌, ◌<◌, ◌≤◌, Some, None, List, [], ◌∷◌, ◌++◌, length, All, chars, encode_utf8_all, IsUtf8, arith, append_assoc, length-append, refl, sym, ap, ◌∙◌, subst}
+use Rattle.std.proofs.lemmas.List.{append_cancel_left, take_all}
 use Rattle.std.specs.List.{AllByRecursion}
 use Rattle.std.proofs.lemmas.List.Elements.{All-from_recursion}
 use Rattle.std.proofs.lemmas.Str.{encodes-append, length-le-encodes, chars-encodes}
@@ -8,7 +8,7 @@ use Rattle.easl_model.specs.declared.place.Place.{Place}
 use Rattle.easl_model.specs.declared.token.Kind.{Kind}
 use Rattle.easl_model.specs.declared.token.Token.{Token}
 use Rattle.easl_model.specs.declared.token.Tokens.{Tokens}
-use Rattle.easl_model.specs.Tokens.{IsToken, IsLongest, IsGap, token_at, Cut, done, gap, token, byte_len, AreTokens, IsPart, OneListOfTokens}
+use Rattle.easl_model.specs.Tokens.{IsToken, IsLongest, IsGap, token_at, CutTo, Cut, done, gap, token, byte_len, AreTokens, NoPiece, IsStuckAt, IsBadTokenAt, IsNotUtf8At, IsPart, OneListOfTokens}
 use Rattle.easl_model.proofs.Pieces.{one_longest, one_token, one_gap, gap_some, apart}
 use Rattle.easl_model.proofs.Words.{token_some}
 
@@ -60,7 +60,7 @@ one_list text x y a b =
     let with_end : Place → Tokens = λ e. record { list = y.list; end = e } in
     ap with_list list ∙ ap with_end end
 
-byte_len-append : (cs ds : List ℕ) → byte_len (cs ++ ds) ≡ byte_len cs + byte_len ds
+pub byte_len-append : (cs ds : List ℕ) → byte_len (cs ++ ds) ≡ byte_len cs + byte_len ds
 byte_len-append cs ds = ap length (encodes-append cs ds) ∙ length-append (encode_utf8_all cs) (encode_utf8_all ds)
 
 token_part : (k : Kind) (before cs rest : List ℕ) → IsToken k cs → (byte_len before < byte_len (before ++ cs)) × (byte_len (before ++ cs) ≤ byte_len (before ++ (cs ++ rest)))
@@ -87,3 +87,23 @@ pub parts : (text : List ℕ) (x : Tokens) → AreTokens text x → All (IsPart 
 parts text x t =
     All-from_recursion (IsPart text) x.list
     (subst (λ n. AllByRecursion (λ t. (t.start < t.end) × (t.end ≤ n)) x.list) (chars_size text t.utf8) (token_parts [] (chars text) x.list t.cut))
+
+no_cut : (before cs : List ℕ) (ts : List Token) → NoPiece cs → cs ≢ [] → Cut before cs ts → ⊥
+no_cut _ _ _ none some (done b) = some refl
+no_cut _ _ _ none some (gap b q s ts h c) = none None q s refl h
+no_cut _ _ _ none some (token k b q s ts l c) = none (Some k) q s refl l
+
+stuck : (left before cs : List ℕ) (ts us : List Token) → NoPiece left → left ≢ [] → CutTo left before cs ts → Cut before cs us → ⊥
+stuck left _ _ _ us none some (done before) d = no_cut before left us none some d
+stuck left _ _ _ us none some (gap before q s ts h c) d = stuck left (before ++ q) s ts us none some c (behind_gap before q s (q ++ s) us h d refl)
+stuck left _ _ _ us none some (token k before q s ts l c) d =
+    let w = behind_token k before q s (q ++ s) us l d refl in
+    stuck left (before ++ q) s ts w.0 none some c w.2
+
+-- a text in which no token begins at some place has no tokens
+pub bad_has_none : (text : List ℕ) (place : Place) (x : Tokens) → IsBadTokenAt text place → AreTokens text x → ⊥
+bad_has_none text place x b t = stuck b.1.left [] (chars text) b.1.tokens x.list b.1.none b.1.some b.1.cut t.cut
+
+-- bytes that are no text have no tokens
+pub not_utf8_has_none : (text : List ℕ) (place : Place) (x : Tokens) → IsNotUtf8At text place → AreTokens text x → ⊥
+not_utf8_has_none text place x n t = n.longest (length text) n.short (omega arith) (subst IsUtf8 (sym (take_all (length text) text (omega arith))) t.utf8)

@@ -15,6 +15,7 @@ pub record Body : Type 0 where
 -- the constructor of a class in which none is written: it has no parameters and no statements
 abbrev pub implicit_constructor : Class → Code
 implicit_constructor c = record {
+  place = c.place;
   result = Void;
   name = c.name;
   params = [];

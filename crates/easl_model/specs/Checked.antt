@@ -1,8 +1,8 @@
 -- What every checked form keeps.
-use Rattle.std.specs.Prelude.{ℕ, ◌≤◌, List, All, length}
+use Rattle.std.specs.Prelude.{◌≡◌, ℕ, ◌≤◌, List, All, length}
 use Rattle.easl_model.specs.Brackets.{Shallow}
+use Rattle.easl_model.specs.CheckedForm.{form_of}
 use Rattle.easl_model.specs.Form.{Form, ClassInRange, MethodInRange}
-use Rattle.easl_model.specs.FormOf.{IsFormOf}
 use Rattle.easl_model.specs.Grammar.{IsSpec}
 use Rattle.easl_model.specs.Limits.{MethodKeepsLimits}
 use Rattle.easl_model.specs.Rules.{IsWellFormed}
@@ -18,15 +18,19 @@ pub record Spells (text : List ℕ) (spec : Spec) : Type 0 where
   pub shallow : Shallow tokens.list
   pub spelled : IsSpec text tokens.end tokens.list spec
 
--- the form is that of a well-formed tree within the limits, which some text within its limit spells
-pub record IsChecked (form : Form) : Type 0 where
+-- a tree that a reader can give: some text within its limit spells it, and it is within the limits
+pub record IsReadable (spec : Spec) : Type 0 where
   pub text : List ℕ
-  pub tree : Spec
   pub few_bytes : length text ≤ 65536
-  pub spells : Spells text tree
+  pub spells : Spells text spec
+  pub limits : IsWithinLimits spec
+
+-- the form is that of a well-formed tree that a reader can give
+pub record IsChecked (checked : Form) : Type 0 where
+  pub tree : Spec
+  pub readable : IsReadable tree
   pub well_formed : IsWellFormed tree
-  pub limits : IsWithinLimits tree
-  pub form_of : IsFormOf tree form
+  pub form : checked ≡ form_of tree
 
 -- each number of a class or a method names one that is there, and the stated limits are kept
 pub record IsInRange (form : Form) : Type 0 where

@@ -28,15 +28,3 @@ rooted (layer.Any conds) = Any (clauses conds)
 
 abbrev pub clause_of : Cond → Clause
 clause_of = fold-Cond Clause rooted
-
--- the two paths are compared in the clause
-mutual
-  pub data Compares : Clause → Path → Path → Type 0 where
-    same : (left right : Path) → Compares (Same left right) left right
-    differ : (left right : Path) → Compares (Differ left right) left right
-    all : (cs : Clauses) (left right : Path) → SomeCompares cs left right → Compares (All cs) left right
-    any : (cs : Clauses) (left right : Path) → SomeCompares cs left right → Compares (Any cs) left right
-
-  pub data SomeCompares : Clauses → Path → Path → Type 0 where
-    first : (c : Clause) (cs : Clauses) (left right : Path) → Compares c left right → SomeCompares (more c cs) left right
-    later : (c : Clause) (cs : Clauses) (left right : Path) → SomeCompares cs left right → SomeCompares (more c cs) left right

@@ -1,5 +1,5 @@
 -- The grammar of specifications: which tokens of a text spell which tree, a constructor for each rule.
-use Rattle.std.specs.Prelude.{ℕ, List, [], ◌∷◌, ◌++◌, Option, Some, None}
+use Rattle.std.specs.Prelude.{ℕ, true, false, List, [], ◌∷◌, ◌++◌, Option, Some, None}
 use Rattle.easl_model.specs.Lexemes.{IsMark, IsKey, IsName, IsLiteral}
 use Rattle.easl_model.specs.declared.place.Place.{Place}
 use Rattle.easl_model.specs.declared.token.Key.{Key}
@@ -17,6 +17,8 @@ use Rattle.easl_model.specs.declared.tree.Opaque.{Opaque}
 use Rattle.easl_model.specs.declared.tree.Opaque.TheVariants as opaque
 use Rattle.easl_model.specs.declared.tree.Param.{Param}
 use Rattle.easl_model.specs.declared.tree.Path.{Path}
+use Rattle.easl_model.specs.declared.tree.Requires.{Requires}
+use Rattle.easl_model.specs.declared.tree.Return.{Return}
 use Rattle.easl_model.specs.declared.tree.Sort.{Sort}
 use Rattle.easl_model.specs.declared.tree.Sort.TheVariants as sort
 use Rattle.easl_model.specs.declared.tree.Spec.{Spec}
@@ -51,6 +53,13 @@ pub data IsPath (text : List ℕ) : List Token → Path → Type 0 where
   this_path : {t : Token} {ts : List Token} {ws : List Word} → IsKey key.This t → IsFields text ts ws → IsPath text (t ∷ ts) (record { head = None; place = t.place; fields = ws })
   named_path : {t : Token} {w : Word} {ts : List Token} {ws : List Word} → IsName text t w → IsFields text ts ws → IsPath text (t ∷ ts) (record { head = Some w; place = w.place; fields = ws })
 
+-- path ("==" | "!=") path
+pub data IsComparison (text : List ℕ) : List Token → Cond → Type 0 where
+  same : {t : Token} {ts us : List Token} {p q : Path} → IsPath text ts p → IsMark mark.Same t → IsPath text us q
+      → IsComparison text (ts ++ t ∷ us) (cond.Same p q)
+  differ : {t : Token} {ts us : List Token} {p q : Path} → IsPath text ts p → IsMark mark.Differ t → IsPath text us q
+      → IsComparison text (ts ++ t ∷ us) (cond.Differ p q)
+
 mutual
   -- all ("||" all)*, where one member is itself
   pub data IsAny (text : List ℕ) : List Token → Cond → Type 0 where
@@ -72,10 +81,9 @@ mutual
     no_atoms : IsAtoms text [] []
     next_atom : {t : Token} {ts us : List Token} {x : Cond} {xs : List Cond} → IsMark mark.And t → IsAtom text ts x → IsAtoms text us xs → IsAtoms text (t ∷ ts ++ us) (x ∷ xs)
 
-  -- path ("==" | "!=") path | "(" any ")"
+  -- comparison | "(" any ")"
   pub data IsAtom (text : List ℕ) : List Token → Cond → Type 0 where
-    same : {t : Token} {ts us : List Token} {p q : Path} → IsPath text ts p → IsMark mark.Same t → IsPath text us q → IsAtom text (ts ++ t ∷ us) (cond.Same p q)
-    differ : {t : Token} {ts us : List Token} {p q : Path} → IsPath text ts p → IsMark mark.Differ t → IsPath text us q → IsAtom text (ts ++ t ∷ us) (cond.Differ p q)
+    comparison : {ts : List Token} {x : Cond} → IsComparison text ts x → IsAtom text ts x
     group : {opening closing : Token} {ts : List Token} {x : Cond} → IsMark mark.Open opening → IsAny text ts x → IsMark mark.Close closing → IsAtom text (opening ∷ ts ++ closing ∷ []) x
 
 -- path | literal
@@ -92,19 +100,43 @@ pub data IsValue (text : List ℕ) : List Token → Value → Type 0 where
 pub data IsSet (text : List ℕ) : List Token → Value → Type 0 where
   set : {assign semicolon : Token} {ts : List Token} {x : Value} → IsMark mark.Assign assign → IsValue text ts x → IsMark mark.Semicolon semicolon → IsSet text (assign ∷ ts ++ semicolon ∷ []) x
 
--- Name Name "=" value ";" | path "=" value ";"
-pub data IsStep (text : List ℕ) : List Token → Step → Type 0 where
-  declare : {class name : Token} {c n : Word} {ts : List Token} {x : Value} → IsName text class c → IsName text name n → IsSet text ts x → IsStep text (class ∷ name ∷ ts) (step.Declare c n x)
-  assign : {ts us : List Token} {p : Path} {x : Value} → IsPath text ts p → IsSet text us x → IsStep text (ts ++ us) (step.Assign p x)
+-- "(" comparison ")"
+pub data IsGuard (text : List ℕ) : List Token → Cond → Type 0 where
+  guard : {opening closing : Token} {ts : List Token} {x : Cond} → IsMark mark.Open opening → IsComparison text ts x → IsMark mark.Close closing
+      → IsGuard text (opening ∷ ts ++ closing ∷ []) x
+
+mutual
+  -- Name Name set | path set | "if" guard block | "if" guard block "else" block
+  pub data IsStep (text : List ℕ) : List Token → Step → Type 0 where
+    declare : {class name : Token} {c n : Word} {ts : List Token} {x : Value} → IsName text class c → IsName text name n → IsSet text ts x
+        → IsStep text (class ∷ name ∷ ts) (step.Declare c n x)
+    assign : {ts us : List Token} {p : Path} {x : Value} → IsPath text ts p → IsSet text us x → IsStep text (ts ++ us) (step.Assign p x)
+    if_alone : {keyword : Token} {ts us : List Token} {c : Cond} {xs : List Step} → IsKey key.If keyword → IsGuard text ts c → IsBlock text us xs
+        → IsStep text (keyword ∷ (ts ++ us)) (step.If keyword.place c xs [] false)
+    if_else : {keyword other : Token} {ts us vs : List Token} {c : Cond} {xs ys : List Step} → IsKey key.If keyword → IsGuard text ts c
+        → IsBlock text us xs → IsKey key.Else other → IsBlock text vs ys
+        → IsStep text (keyword ∷ (ts ++ (us ++ other ∷ vs))) (step.If keyword.place c xs ys true)
+
+  -- "{" step* "}"
+  pub data IsBlock (text : List ℕ) : List Token → List Step → Type 0 where
+    block : {begin end : Token} {ts : List Token} {xs : List Step} → IsMark mark.Begin begin → IsSteps text ts xs → IsMark mark.End end
+        → IsBlock text (begin ∷ ts ++ end ∷ []) xs
+
+  -- step*
+  pub data IsSteps (text : List ℕ) : List Token → List Step → Type 0 where
+    no_steps : IsSteps text [] []
+    next_step : {ts us : List Token} {x : Step} {xs : List Step} → IsStep text ts x → IsSteps text us xs → IsSteps text (ts ++ us) (x ∷ xs)
 
 -- "requires" any ";"
-pub data IsClause (text : List ℕ) : List Token → Cond → Type 0 where
-  clause : {requires semicolon : Token} {ts : List Token} {x : Cond} → IsKey key.Requires requires → IsAny text ts x → IsMark mark.Semicolon semicolon → IsClause text (requires ∷ ts ++ semicolon ∷ []) x
+pub data IsClause (text : List ℕ) : List Token → Requires → Type 0 where
+  clause : {requires semicolon : Token} {ts : List Token} {x : Cond} → IsKey key.Requires requires → IsAny text ts x → IsMark mark.Semicolon semicolon
+      → IsClause text (requires ∷ ts ++ semicolon ∷ []) (record { place = requires.place; condition = x })
 
 -- ("return" value ";")?
-pub data IsReturn (text : List ℕ) : List Token → Option Value → Type 0 where
+pub data IsReturn (text : List ℕ) : List Token → Option Return → Type 0 where
   no_return : IsReturn text [] None
-  with_return : {return semicolon : Token} {ts : List Token} {x : Value} → IsKey key.Return return → IsValue text ts x → IsMark mark.Semicolon semicolon → IsReturn text (return ∷ ts ++ semicolon ∷ []) (Some x)
+  with_return : {return semicolon : Token} {ts : List Token} {x : Value} → IsKey key.Return return → IsValue text ts x → IsMark mark.Semicolon semicolon
+      → IsReturn text (return ∷ ts ++ semicolon ∷ []) (Some (record { place = return.place; value = x }))
 
 abbrev pub opaque_key : Opaque → Key
 opaque_key opaque.Object = key.Object
@@ -124,7 +156,8 @@ pub data IsResult (text : List ℕ) : List Token → Sort → Type 0 where
 
 -- (opaque | Name) Name
 pub data IsParam (text : List ℕ) : List Token → Param → Type 0 where
-  param : {name : Token} {n : Word} {ts : List Token} {x : Sort} → IsType text ts x → IsName text name n → IsParam text (ts ++ name ∷ []) (record { sort = x; name = n })
+  param : {t name : Token} {n : Word} {x : Sort} → IsType text (t ∷ []) x → IsName text name n
+      → IsParam text (t ∷ name ∷ []) (record { place = t.place; sort = x; name = n })
 
 -- "(" params? ")"
 pub data IsParams (text : List ℕ) : List Token → List Param → Type 0 where
@@ -133,13 +166,22 @@ pub data IsParams (text : List ℕ) : List Token → List Param → Type 0 where
 -- field | constructor | method, where
 -- field := Name Name ";", constructor := Name params "{" step* "}", method := result Name params "{" clause* step* return? "}"
 pub data IsMember (text : List ℕ) : List Token → Member → Type 0 where
-  field : {class name semicolon : Token} {c n : Word} → IsName text class c → IsName text name n → IsMark mark.Semicolon semicolon → IsMember text (class ∷ name ∷ semicolon ∷ []) (member.Field (record { class = c; name = n }))
-  constructor : {name begin end : Token} {n : Word} {ts us : List Token} {ps : List Param} {xs : List Step} → IsName text name n → IsParams text ts ps → IsMark mark.Begin begin → IsMany (IsStep text) us xs → IsMark mark.End end → IsMember text (name ∷ (ts ++ (begin ∷ (us ++ end ∷ [])))) (member.Constructor (record { result = sort.Void; name = n; params = ps; clauses = []; body = xs; value = None; end = end.place }))
-  method : {name begin end : Token} {n : Word} {rs ts us vs ws : List Token} {r : Sort} {ps : List Param} {cs : List Cond} {xs : List Step} {x : Option Value} → IsResult text rs r → IsName text name n → IsParams text ts ps → IsMark mark.Begin begin → IsMany (IsClause text) us cs → IsMany (IsStep text) vs xs → IsReturn text ws x → IsMark mark.End end → IsMember text (rs ++ (name ∷ (ts ++ (begin ∷ (us ++ (vs ++ (ws ++ end ∷ []))))))) (member.Method (record { result = r; name = n; params = ps; clauses = cs; body = xs; value = x; end = end.place }))
+  field : {class name semicolon : Token} {c n : Word} → IsName text class c → IsName text name n → IsMark mark.Semicolon semicolon
+      → IsMember text (class ∷ name ∷ semicolon ∷ []) (member.Field (record { class = c; name = n }))
+  constructor : {name begin end : Token} {n : Word} {ts us : List Token} {ps : List Param} {xs : List Step} → IsName text name n
+      → IsParams text ts ps → IsMark mark.Begin begin → IsSteps text us xs → IsMark mark.End end
+      → IsMember text (name ∷ (ts ++ (begin ∷ (us ++ end ∷ []))))
+      (member.Constructor (record { place = name.place; result = sort.Void; name = n; params = ps; clauses = []; body = xs; value = None; end = end.place }))
+  method : {result name begin end : Token} {n : Word} {ts us vs ws : List Token} {r : Sort} {ps : List Param} {cs : List Requires} {xs : List Step} {x : Option Return}
+      → IsResult text (result ∷ []) r → IsName text name n → IsParams text ts ps → IsMark mark.Begin begin → IsMany (IsClause text) us cs
+      → IsSteps text vs xs → IsReturn text ws x → IsMark mark.End end
+      → IsMember text (result ∷ name ∷ (ts ++ (begin ∷ (us ++ (vs ++ (ws ++ end ∷ []))))))
+      (member.Method (record { place = result.place; result = r; name = n; params = ps; clauses = cs; body = xs; value = x; end = end.place }))
 
 -- "class" Name "{" member* "}"
 pub data IsClass (text : List ℕ) : List Token → Class → Type 0 where
-  class : {keyword name begin end : Token} {n : Word} {ts : List Token} {xs : List Member} → IsKey key.Class keyword → IsName text name n → IsMark mark.Begin begin → IsMany (IsMember text) ts xs → IsMark mark.End end → IsClass text (keyword ∷ name ∷ begin ∷ (ts ++ end ∷ [])) (record { name = n; members = xs })
+  class : {keyword name begin end : Token} {n : Word} {ts : List Token} {xs : List Member} → IsKey key.Class keyword → IsName text name n → IsMark mark.Begin begin → IsMany (IsMember text) ts xs → IsMark mark.End end
+      → IsClass text (keyword ∷ name ∷ begin ∷ (ts ++ end ∷ [])) (record { place = keyword.place; name = n; members = xs })
 
 -- class class*, where the text ends at the place
 pub data IsSpec (text : List ℕ) (end : Place) : List Token → Spec → Type 0 where

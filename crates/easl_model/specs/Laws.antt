@@ -1,16 +1,20 @@
 -- Laws on the definitions.
-use Rattle.std.specs.Prelude.{◌≡◌}
+use Rattle.easl_model.specs.CheckedForm.{form_of}
 use Rattle.easl_model.specs.Checked.{IsInRange}
-use Rattle.easl_model.specs.Form.{Form}
-use Rattle.easl_model.specs.FormOf.{IsFormOf}
-use Rattle.easl_model.specs.Rules.{IsWellFormed, NamesDiffer}
+use Rattle.easl_model.specs.Nests.{ConstructorsNest}
+use Rattle.easl_model.specs.Rules.{IsWellFormed}
 use Rattle.easl_model.specs.TreeLimits.{IsWithinLimits}
+use Rattle.easl_model.specs.TypedBodies.{IsTyped}
 use Rattle.easl_model.specs.declared.tree.Spec.{Spec}
 
 -- the checked form of a well-formed tree within the limits is in range
-abbrev pub FormsAreInRange : Type 0
-FormsAreInRange = (spec : Spec) (form : Form) → IsWellFormed spec → IsWithinLimits spec → IsFormOf spec form → IsInRange form
+abbrev pub FormIsInRange : Type 0
+FormIsInRange = (spec : Spec) → IsWellFormed spec → IsWithinLimits spec → IsInRange (form_of spec)
 
--- a tree in which nothing is named a second time has one checked form
-abbrev pub OneForm : Type 0
-OneForm = (spec : Spec) (f g : Form) → NamesDiffer spec → IsFormOf spec f → IsFormOf spec g → f ≡ g
+-- the checked form of a well-formed tree is typed
+abbrev pub FormIsTyped : Type 0
+FormIsTyped = (spec : Spec) → IsWellFormed spec → IsTyped (form_of spec)
+
+-- its constructors stand in one another at most as deep as there are classes
+abbrev pub FormNests : Type 0
+FormNests = (spec : Spec) → IsWellFormed spec → ConstructorsNest (form_of spec)

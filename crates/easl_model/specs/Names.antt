@@ -1,6 +1,9 @@
--- What is named in a specification.
-use Rattle.std.specs.Prelude.{◌≡◌, ℕ, List, [], ◌∷◌, Option, Some, None, slice_get}
-use Rattle.std.specs.Option.{option_map, option_map_or}
+-- What is named in a specification, and what names stand for.
+use Rattle.std.specs.Prelude.{ℕ, suc, Bool, List, [], ◌∷◌, Option, Some, None, if◌then◌else◌, nat_eq, slice_get}
+use Rattle.std.specs.Cmp.Lexicographic.{pointwise}
+use Rattle.std.specs.List.{position_from}
+use Rattle.std.specs.Option.{option_map_or}
+use Rattle.easl_model.specs.declared.scope.FieldAt.{FieldAt}
 use Rattle.easl_model.specs.declared.tree.Code.{Code}
 use Rattle.easl_model.specs.declared.tree.Field as tree
 use Rattle.easl_model.specs.declared.tree.Member.{Member}
@@ -8,19 +11,6 @@ use Rattle.easl_model.specs.declared.tree.Member.TheVariants.{Field, Constructor
 use Rattle.easl_model.specs.declared.tree.Sort.{Sort}
 use Rattle.easl_model.specs.declared.tree.Sort.TheVariants as sort
 use Rattle.easl_model.specs.declared.tree.Spec.{Spec}
-
--- the class with this number has this name
-abbrev pub IsClass : Spec → List ℕ → ℕ → Type 0
-IsClass spec name class = option_map (λ c. c.name.name) (slice_get spec.classes class) ≡ Some name
-
--- what a type names: a class, or nothing that is modelled
-abbrev pub IsSort : Spec → Sort → Option ℕ → Type 0
-IsSort spec sort.Void None = Unit {0}
-IsSort spec sort.Void (Some class) = ⊥
-IsSort spec (sort.Opaque kind) None = Unit {0}
-IsSort spec (sort.Opaque kind) (Some class) = ⊥
-IsSort spec (sort.Class name) None = ⊥
-IsSort spec (sort.Class name) (Some class) = IsClass spec name.name class
 
 -- the members of the class with this number
 abbrev pub members_of : Spec → ℕ → List Member
@@ -58,9 +48,28 @@ constructor_in (Field f ∷ rest) = constructor_in rest
 constructor_in (Constructor code ∷ rest) = Some code
 constructor_in (Method code ∷ rest) = constructor_in rest
 
--- at this position the class has a field of this name, and the field is of this class
-pub record IsField (spec : Spec) (class : ℕ) (name : List ℕ) (position of : ℕ) : Type 0 where
-  pub field : tree.Field
-  pub at : slice_get (fields_in (members_of spec class)) position ≡ Some field
-  pub named : field.name.name ≡ name
-  pub typed : IsClass spec field.class.name of
+-- whether two names are one
+abbrev pub is_same : List ℕ → List ℕ → Bool
+is_same = pointwise nat_eq
+
+-- the number of the class of this name
+abbrev pub class_named : Spec → List ℕ → Option ℕ
+class_named spec name = position_from (λ c. is_same c.name.name name) 0 spec.classes
+
+-- the class that a type names; None where it is opaque. A name that is no class counts as opaque: it breaks a rule of its own
+abbrev pub class_of : Spec → Sort → Option ℕ
+class_of spec sort.Void = None
+class_of spec (sort.Opaque kind) = None
+class_of spec (sort.Class w) = class_named spec w.name
+
+-- the first of these fields, numbered from here on, that has the name
+abbrev pub field_among : Spec → ℕ → List tree.Field → List ℕ → Option FieldAt
+field_among spec n [] name = None
+field_among spec n (f ∷ fs) name =
+    if is_same f.name.name name
+    then Some (record { position = n; class = class_named spec f.class.name })
+    else field_among spec (suc n) fs name
+
+-- the class's field of the name
+abbrev pub field_named : Spec → ℕ → List ℕ → Option FieldAt
+field_named spec class name = field_among spec 0 (fields_in (members_of spec class)) name

@@ -1,5 +1,5 @@
 -- The tokens of a text, which is cut into gaps and tokens in turn.
-use Rattle.std.specs.Prelude.{◌≡◌, ◌≢◌, ℕ, ◌+◌, ◌<◌, ◌≤◌, Bool, List, [], ◌∷◌, ◌++◌, ◌||◌, ◌==◌, length, count_by, IsTrue, IsUtf8, chars, codes, encode_utf8_all}
+use Rattle.std.specs.Prelude.{◌≡◌, ◌≢◌, ℕ, ◌+◌, ◌<◌, ◌≤◌, Bool, Option, Some, None, List, [], ◌∷◌, ◌++◌, ◌||◌, ◌==◌, length, take, count_by, IsTrue, IsUtf8, chars, codes, encode_utf8_all}
 use Rattle.std.specs.List.{after_last, AllByRecursion}
 use Rattle.std.specs.Char.{is_ascii_digit}
 use Rattle.unicode_ident.specs.Ident.{is_xid_start, is_xid_continue}
@@ -124,17 +124,53 @@ token_at before k cs = record {
   place = place_after before;
 }
 
--- behind the characters `before`, the others are cut into gaps and these tokens
-pub data Cut : List ℕ → List ℕ → List Token → Type 0 where
-  done : (before : List ℕ) → Cut before [] []
-  gap : (before cs rest : List ℕ) (ts : List Token) → IsGap cs rest → Cut (before ++ cs) rest ts → Cut before (cs ++ rest) ts
-  token : (k : Kind) (before cs rest : List ℕ) (ts : List Token) → IsLongest k cs rest → Cut (before ++ cs) rest ts → Cut before (cs ++ rest) (token_at before k cs ∷ ts)
+-- behind the characters `before`, the others are cut into gaps and these tokens, up to those that are left
+pub data CutTo (left : List ℕ) : List ℕ → List ℕ → List Token → Type 0 where
+  done : (before : List ℕ) → CutTo left before left []
+  gap : (before cs rest : List ℕ) (ts : List Token) → IsGap cs rest → CutTo left (before ++ cs) rest ts → CutTo left before (cs ++ rest) ts
+  token : (k : Kind) (before cs rest : List ℕ) (ts : List Token) → IsLongest k cs rest → CutTo left (before ++ cs) rest ts → CutTo left before (cs ++ rest) (token_at before k cs ∷ ts)
+
+-- all of the others are cut
+abbrev pub Cut : List ℕ → List ℕ → List Token → Type 0
+Cut before cs ts = CutTo [] before cs ts
 
 -- these are the tokens of the text with these bytes
 pub record AreTokens (text : List ℕ) (x : Tokens) : Type 0 where
   pub utf8 : IsUtf8 text
   pub cut : Cut [] (chars text) x.list
   pub end : x.end ≡ place_after (chars text)
+
+-- before this rest the characters are a token of the kind, or a gap where there is none
+abbrev pub IsPiece : Option Kind → List ℕ → List ℕ → Type 0
+IsPiece None cs rest = IsGap cs rest
+IsPiece (Some k) cs rest = IsLongest k cs rest
+
+-- neither a gap nor a token begins the characters
+abbrev pub NoPiece : List ℕ → Type 0
+NoPiece all = (k : Option Kind) (cs rest : List ℕ) → all ≡ cs ++ rest → IsPiece k cs rest → ⊥
+
+-- the characters are cut up to the place, where more are left and neither a gap nor a token begins
+pub record IsStuckAt (cs : List ℕ) (p : Place) : Type 0 where
+  pub before : List ℕ
+  pub left : List ℕ
+  pub tokens : List Token
+  pub split : cs ≡ before ++ left
+  pub cut : CutTo left [] cs tokens
+  pub some : left ≢ []
+  pub none : NoPiece left
+  pub place : p ≡ place_after before
+
+-- the place is the first of the text at which no token begins though one is wanted
+abbrev pub IsBadTokenAt : List ℕ → Place → Type 0
+IsBadTokenAt text place = IsUtf8 text × IsStuckAt (chars text) place
+
+-- the longest front of the text that is UTF-8 ends at the place, and is not the whole text
+pub record IsNotUtf8At (text : List ℕ) (p : Place) : Type 0 where
+  pub size : ℕ
+  pub short : size < length text
+  pub utf8 : IsUtf8 (take size text)
+  pub longest : (n : ℕ) → size < n → n ≤ length text → IsUtf8 (take n text) → ⊥
+  pub place : p ≡ place_after (chars (take size text))
 
 -- the token's bytes are some of the text
 abbrev pub IsPart : List ℕ → Token → Type 0

@@ -1,3 +1,4 @@
+//! Specifications that were checked.
 use crate::form::{ClassForm, Method};
 use crate::place::Name;
 use sqlite_items::Items;

@@ -1,3 +1,4 @@
+//! Places in a text, and names.
 use std::marker::Model;
 
 /// A place in a text: its line and the character in the line, both counted from 1. A line ends with LF.

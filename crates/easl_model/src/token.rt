@@ -1,3 +1,4 @@
+//! Tokens of a text, their kinds, keywords and marks.
 use crate::place::Place;
 use sqlite_items::Items;
 

@@ -9,8 +9,10 @@ pub struct Spec {
     pub end: Place,
 }
 
+/// A class, with the place of its first token.
 #[derive(Debug, Drop)]
 pub struct Class {
+    pub place: Place,
     pub name: Word,
     pub members: Items<Member>,
 }
@@ -35,17 +37,32 @@ pub struct Field {
     pub name: Word,
 }
 
-/// A constructor or a method, and the place of its closing brace. A constructor's result is `Void`, and it
-/// has no clauses and no value.
+/// A constructor or a method, with the places of its first token and of its closing brace. A constructor's result is
+/// `Void`, and it has no clauses and no `return`.
 #[derive(Debug, Drop)]
 pub struct Code {
+    pub place: Place,
     pub result: Sort,
     pub name: Word,
     pub params: Items<Param>,
-    pub clauses: Items<Cond>,
+    pub clauses: Items<Requires>,
     pub body: Items<Step>,
-    pub value: Option<Value>,
+    pub value: Option<Return>,
     pub end: Place,
+}
+
+/// A clause, with the place of its `requires`.
+#[derive(Debug, Drop)]
+pub struct Requires {
+    pub place: Place,
+    pub condition: Cond,
+}
+
+/// A `return`, with its place.
+#[derive(Debug, Drop)]
+pub struct Return {
+    pub place: Place,
+    pub value: Value,
 }
 
 /// The type of a parameter or a result.
@@ -65,8 +82,10 @@ pub enum Opaque {
     String,
 }
 
+/// A parameter, with the place of its first token.
 #[derive(Debug, Drop)]
 pub struct Param {
+    pub place: Place,
     pub sort: Sort,
     pub name: Word,
 }
@@ -79,11 +98,13 @@ pub enum Cond {
     Any(Items<Cond>),
 }
 
-/// A statement of an Easl body: a local's class, name and value, or an assignment.
+/// A statement of an Easl body: a local's class, name and value; an assignment; or a conditional with the place of its
+/// `if`, its comparison, its two blocks, and whether `else` is written. A missing alternative is empty.
 #[derive(Debug, Drop)]
 pub enum Step {
     Declare(Word, Word, Value),
     Assign(Path, Value),
+    If(Place, Cond, Items<Step>, Items<Step>, bool),
 }
 
 #[derive(Debug, Drop)]

@@ -1,6 +1,6 @@
 use Rattle.std.proofs.Common.{rules}
 use Rattle.easl_model.specs.Checked.{IsChecked}
-use Rattle.easl_model.proofs.Constructors.{constructs_at}
+use Rattle.easl_model.proofs.CheckedForms.{constructs_at}
 use Rattle.easl_model.proofs.checked.CheckedSpec.constructor.Goals as goal
 
 pub returns-clause-constructs : goal.returns-clause-constructs

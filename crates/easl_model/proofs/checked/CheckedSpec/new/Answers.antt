@@ -1,4 +1,4 @@
-use Rattle.easl_model.proofs.FormsInRange.{put_together}
+use Rattle.easl_model.proofs.CheckedForms.{put_together}
 use Rattle.easl_model.proofs.checked.CheckedSpec.new.Goals as goal
 
 pub invariant_of-result : goal.invariant_of-result
