@@ -1,18 +1,14 @@
 -- Full heaps are those whose objects are all whole.
 use Rattle.std.proofs.Common.{inl, inr, ◌≡◌, ℕ, zero, suc, ◌<◌, List, [], ◌∷◌, length, fold, arith, refl, ap, sym, subst, ◌∙◌}
-use Rattle.std.specs.Prelude.{Option, Some, slice_get, slice_index}
+use Rattle.std.specs.Prelude.{Some, slice_get, slice_index}
 use Rattle.std.specs.List.{AllZip}
+use Rattle.std.proofs.lemmas.Bool.Decides.{leb_tells}
 use Rattle.std.proofs.lemmas.Option.{get_or_from_slice_get}
 use Rattle.std.proofs.lemmas.Slice.Zip.{AllZip-long}
-use Rattle.easl_model.specs.Checked.{IsChecked}
 use Rattle.easl_model.specs.Form.{Form, fields_of}
-use Rattle.easl_model.specs.Names.{IsSort}
-use Rattle.easl_model.specs.declared.tree.Param.{Param}
-use Rattle.easl_model.proofs.FormsInRange.{all_at, all_from_places, most_or_more}
-use Rattle.easl_heap.specs.Full.{FieldsLead, IsGiven}
+use Rattle.easl_model.proofs.Items.{all_at, all_from_places, zip_from}
+use Rattle.easl_heap.specs.Full.{FieldsLead}
 use Rattle.easl_heap.specs.Heap.{Object, IsFull, IsFullObject, IsObjectOf, get, object_at}
-use Rattle.easl_heap.proofs.FormFields.{one_sort, zip_from}
-use Rattle.easl_heap.proofs.Typed.{AreFor}
 use Rattle.easl_heap.proofs.Whole.{AreShaped, IsWhole, Keeps, stays_whole, was_of, whole_field, whole_object}
 use Rattle.easl_heap.proofs.Writes.{got, is_object, object_of}
 
@@ -25,7 +21,8 @@ full_shaped form heap full n o at =
     let f = full_at form heap n o full at in
     record { class = f.class; fields = AllZip-long (IsObjectOf heap) (fields_of form o.class) o.fields f.fields }
 
-full_field : (form : Form) (heap : List Object) (class n p of : ℕ) → IsFull form heap → IsObjectOf heap class n → slice_get (fields_of form class) p ≡ Some of → IsObjectOf heap of (get heap n p)
+full_field : (form : Form) (heap : List Object) (class n p of : ℕ) → IsFull form heap → IsObjectOf heap class n
+    → slice_get (fields_of form class) p ≡ Some of → IsObjectOf heap of (get heap n p)
 full_field form heap class n p of full is at =
     let o = object_of heap class n is in
     let f = full_at form heap n o.0 full o.1 in
@@ -34,7 +31,8 @@ full_field form heap class n p of full is at =
     let e : get heap n p ≡ v.0 = got heap n p o.0 o.1 ∙ get_or_from_slice_get o.0.fields p v.0 0 v.1 in
     subst (IsObjectOf heap of) (sym e) v.2
 
-pub full_leads : (form : Form) (heap : List Object) → IsFull form heap → (ps : List ℕ) (class n end : ℕ) → IsObjectOf heap class n → FieldsLead form class ps end → IsObjectOf heap end (fold (get heap) n ps)
+full_leads : (form : Form) (heap : List Object) → IsFull form heap → (ps : List ℕ) (class n end : ℕ) → IsObjectOf heap class n
+    → FieldsLead form class ps end → IsObjectOf heap end (fold (get heap) n ps)
 full_leads form heap full [] class n end is leads = subst (λ c. IsObjectOf heap c n) leads is
 full_leads form heap full (p ∷ ps) class n end is leads =
     full_leads form heap full ps leads.0 (get heap n p) end (full_field form heap class n p leads.0 full is leads.1) leads.2
@@ -69,19 +67,9 @@ object_some heap class (suc n) is = omega arith
 pub keeps_full : (form : Form) (heap new : List Object) → IsFull form heap → Keeps form heap new → IsFull form new
 keeps_full form heap new full k =
     whole_full form new (k.stays.shaped (full_shaped form heap full))
-    (λ class n is. elim (most_or_more n (length heap)) [
-      | inl within ↦ stays_whole form heap new class n k.stays (full_whole form heap class n full (was_of form heap new class n k.stays.kept (object_some new class n is) within is))
-      | inr more ↦ k.made class n more is
+    (λ class n is. elim (leb_tells n (length heap)) [
+      | inl within ↦
+          stays_whole form heap new class n k.stays
+          (full_whole form heap class n full (was_of form heap new class n k.stays.kept (object_some new class n is) within.1 is))
+      | inr more ↦ k.made class n more.1 is
     ])
-
--- arguments of the classes that are taken
-pub given_for : (form : Form) (checked : IsChecked form) (heap : List Object) (params : List Param) (sorts : List (Option ℕ)) (args : List ℕ) → IsFull form heap → AllZip (λ p s. IsSort checked.tree p.sort s) params sorts → AllZip (IsGiven heap) sorts args → AreFor form checked heap params args
-given_for form checked heap params sorts args full typed given = record {
-  many = AllZip-long (IsGiven heap) sorts args given ∙ AllZip-long (λ (p : Param) (s : Option ℕ). IsSort checked.tree p.sort s) params sorts typed;
-  each = λ k p class at is.
-      let s = zip_from (λ (q : Param) (o : Option ℕ). IsSort checked.tree q.sort o) params sorts k p typed at in
-      let a = zip_from (IsGiven heap) sorts args k s.0 given s.1 in
-      let e : s.0 ≡ Some class = one_sort form checked p.sort s.0 class s.2 is in
-      let object : IsObjectOf heap class a.0 = subst (λ o. IsGiven heap o a.0) e a.2 in
-      full_whole form heap class (slice_index args k) full (subst (IsObjectOf heap class) (sym (get_or_from_slice_get args k a.0 0 a.1)) object);
-}

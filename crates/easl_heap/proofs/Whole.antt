@@ -1,10 +1,10 @@
 -- Objects whose fields lead to objects of the right classes.
 use Rattle.std.proofs.Common.{inl, inr, ◌≡◌, ℕ, ◌+◌, ◌<◌, ◌≤◌, List, [], ◌∷◌, ◌++◌, length, fold, arith, refl, ap, sym, subst, ◌∙◌, length-append, length-set}
-use Rattle.std.specs.Prelude.{Option, Some, None, slice_get, ◌⊎◌}
+use Rattle.std.specs.Prelude.{Some, slice_get}
+use Rattle.std.proofs.lemmas.Bool.Decides.{leb_tells}
 use Rattle.std.proofs.lemmas.List.{length-replicate}
 use Rattle.std.proofs.lemmas.Option.{slice_get_within}
 use Rattle.easl_model.specs.Form.{Form, fields_of}
-use Rattle.easl_model.proofs.FormsInRange.{same_or_not, most_or_more}
 use Rattle.easl_heap.specs.Full.{FieldsLead, KeepsClasses}
 use Rattle.easl_heap.specs.Heap.{Object, IsObjectOf, object_at, get, write, fresh, with_field}
 use Rattle.easl_heap.proofs.Writes.{at_before, at_cases, get_cases, get_written, is_object, number_within, object_of, object_there, one_class, same_get, write_back, write_cases, write_length}
@@ -16,36 +16,21 @@ pub record IsWhole (form : Form) (heap : List Object) (class n : ℕ) : Type 0 w
 pub whole_object : (form : Form) (heap : List Object) (class n : ℕ) → IsWhole form heap class n → IsObjectOf heap class n
 whole_object form heap class n w = w.leads [] class refl
 
-pub whole_field : (form : Form) (heap : List Object) (class n p of : ℕ) → IsWhole form heap class n → slice_get (fields_of form class) p ≡ Some of → IsWhole form heap of (get heap n p)
+pub whole_field : (form : Form) (heap : List Object) (class n p of : ℕ) → IsWhole form heap class n → slice_get (fields_of form class) p ≡ Some of
+    → IsWhole form heap of (get heap n p)
 whole_field form heap class n p of w at = record { leads = λ ps end leads. w.leads (p ∷ ps) end (of, at, leads) }
 
 -- an object is whole where each of its fields holds a whole one
 abbrev pub HaveWhole : Form → List Object → ℕ → ℕ → Type 0
 HaveWhole form heap class n = (p of : ℕ) → slice_get (fields_of form class) p ≡ Some of → IsWhole form heap of (get heap n p)
 
-fields_lead : (form : Form) (heap : List Object) (class n : ℕ) → IsObjectOf heap class n → HaveWhole form heap class n → (ps : List ℕ) (end : ℕ) → FieldsLead form class ps end → IsObjectOf heap end (fold (get heap) n ps)
+fields_lead : (form : Form) (heap : List Object) (class n : ℕ) → IsObjectOf heap class n → HaveWhole form heap class n → (ps : List ℕ) (end : ℕ)
+    → FieldsLead form class ps end → IsObjectOf heap end (fold (get heap) n ps)
 fields_lead form heap class n is have [] end leads = subst (λ c. IsObjectOf heap c n) leads is
 fields_lead form heap class n is have (p ∷ ps) end leads = (have p leads.0 leads.1).leads ps end leads.2
 
 pub whole : (form : Form) (heap : List Object) (class n : ℕ) → IsObjectOf heap class n → HaveWhole form heap class n → IsWhole form heap class n
 whole form heap class n is have = record { leads = fields_lead form heap class n is have }
-
--- what can't be false is true
-some_decided : (o : Option ℕ) (n : ℕ) → (o ≡ Some n) ⊎ ((o ≡ Some n) → ⊥)
-some_decided None n = inr (λ e. cc)
-some_decided (Some m) n =
-    elim (same_or_not m n) [
-      | inl e ↦ inl (ap Some e)
-      | inr other ↦ inr (λ e. other (cc))
-    ]
-
-pub not_not_same : (o : Option ℕ) (n : ℕ) → (((o ≡ Some n) → ⊥) → ⊥) → o ≡ Some n
-not_not_same o n possible = elim (some_decided o n) [ inl e ↦ e | inr never ↦ absurd (possible never) ]
-
-pub not_not_whole : (form : Form) (heap : List Object) (class n : ℕ) → ((IsWhole form heap class n → ⊥) → ⊥) → IsWhole form heap class n
-not_not_whole form heap class n possible = record {
-  leads = λ ps end leads. not_not_same _ end (λ never. possible (λ (w : IsWhole form heap class n). never (w.leads ps end leads)));
-}
 
 -- each object has as many fields as its class
 pub record IsShaped (form : Form) (o : Object) : Type 0 where
@@ -58,7 +43,8 @@ AreShaped form heap = (n : ℕ) (o : Object) → object_at heap n ≡ Some o →
 -- what holds whole objects holds whole ones, object by object and field by field
 pub record Stays (form : Form) (heap new : List Object) : Type 0 where
   pub kept : KeepsClasses heap new
-  pub fields : (class n p of : ℕ) → IsObjectOf heap class n → slice_get (fields_of form class) p ≡ Some of → IsWhole form heap of (get heap n p) → IsWhole form new of (get new n p)
+  pub fields : (class n p of : ℕ) → IsObjectOf heap class n → slice_get (fields_of form class) p ≡ Some of → IsWhole form heap of (get heap n p)
+      → IsWhole form new of (get new n p)
   pub shaped : AreShaped form heap → AreShaped form new
 
 -- and each new object is whole
@@ -88,7 +74,8 @@ keeps_same form heap = record {
 }
 
 -- an object of the new heap that was there is of the class that it was of
-pub was_of : (form : Form) (heap new : List Object) (class n : ℕ) → KeepsClasses heap new → 0 < n → n ≤ length heap → IsObjectOf new class n → IsObjectOf heap class n
+pub was_of : (form : Form) (heap new : List Object) (class n : ℕ) → KeepsClasses heap new → 0 < n → n ≤ length heap → IsObjectOf new class n
+    → IsObjectOf heap class n
 was_of form heap new class n kept some within is =
     let o = object_there heap n some within in
     let was = is_object heap n o.0 o.1 in
@@ -98,9 +85,9 @@ pub keeps_both : (form : Form) (heap next last : List Object) → Keeps form hea
 keeps_both form heap next last s t = record {
   stays = stays_both form heap next last s.stays t.stays;
   longer = omega (arith, s.longer, t.longer);
-  made = λ class n more is. elim (most_or_more n (length next)) [
-    | inl within ↦ stays_whole form next last class n t.stays (s.made class n more (was_of form next last class n t.stays.kept (omega arith) within is))
-    | inr new ↦ t.made class n new is
+  made = λ class n more is. elim (leb_tells n (length next)) [
+    | inl within ↦ stays_whole form next last class n t.stays (s.made class n more (was_of form next last class n t.stays.kept (omega arith) within.1 is))
+    | inr new ↦ t.made class n new.1 is
   ];
 }
 
@@ -108,13 +95,15 @@ keeps_both form heap next last s t = record {
 abbrev HoldWhole : Form → List Object → List Object → Type 0
 HoldWhole form heap new = (class n p of : ℕ) → IsObjectOf heap class n → slice_get (fields_of form class) p ≡ Some of → IsWhole form heap of (get heap n p) → IsWhole form heap of (get new n p)
 
-still_lead : (form : Form) (heap new : List Object) → KeepsClasses heap new → HoldWhole form heap new → (ps : List ℕ) (class n end : ℕ) → IsWhole form heap class n → FieldsLead form class ps end → IsObjectOf new end (fold (get new) n ps)
+still_lead : (form : Form) (heap new : List Object) → KeepsClasses heap new → HoldWhole form heap new → (ps : List ℕ) (class n end : ℕ)
+    → IsWhole form heap class n → FieldsLead form class ps end → IsObjectOf new end (fold (get new) n ps)
 still_lead form heap new kept hold [] class n end w leads = subst (λ c. IsObjectOf new c n) leads (kept class n (whole_object form heap class n w))
 still_lead form heap new kept hold (p ∷ ps) class n end w leads =
     still_lead form heap new kept hold ps leads.0 (get new n p) end
     (hold class n p leads.0 (whole_object form heap class n w) leads.1 (whole_field form heap class n p leads.0 w leads.1)) leads.2
 
-stay : (form : Form) (heap new : List Object) → KeepsClasses heap new → HoldWhole form heap new → (AreShaped form heap → AreShaped form new) → Stays form heap new
+stay : (form : Form) (heap new : List Object) → KeepsClasses heap new → HoldWhole form heap new → (AreShaped form heap → AreShaped form new)
+    → Stays form heap new
 stay form heap new kept hold shaped = record {
   kept = kept;
   fields = λ class n p of is at w. record { leads = λ ps end leads. still_lead form heap new kept hold ps of (get new n p) end (hold class n p of is at w) leads };
@@ -147,19 +136,20 @@ pub number_fresh : (heap : List Object) (o : Object) → length (heap ++ o ∷ [
 number_fresh heap o = omega (arith, length-append heap (o ∷ []))
 
 -- a construction keeps what its constructor keeps, where at the end the fresh object is whole
-pub constructed_keeps : (form : Form) (heap last : List Object) (class : ℕ) → class < length form.classes → Keeps form (heap ++ fresh form class ∷ []) last → IsWhole form last class (length heap + 1) → Keeps form heap last
+pub constructed_keeps : (form : Form) (heap last : List Object) (class : ℕ) → class < length form.classes
+    → Keeps form (heap ++ fresh form class ∷ []) last → IsWhole form last class (length heap + 1) → Keeps form heap last
 constructed_keeps form heap last class there k w =
     let o = fresh form class in
     let next = heap ++ o ∷ [] in
     record {
       stays = stays_both form heap next last (adding_stays form heap class there) k.stays;
       longer = omega (arith, number_fresh heap o, k.longer);
-      made = λ of n more is. elim (most_or_more n (length heap + 1)) [
+      made = λ of n more is. elim (leb_tells n (length heap + 1)) [
         | inl within ↦
-            let e : length heap + 1 ≡ n = omega arith in
+            let e : length heap + 1 ≡ n = omega (arith, within.1) in
             let w' : IsWhole form last class n = subst (IsWhole form last class) e w in
             subst (λ c. IsWhole form last c n) (one_class last class of n (whole_object form last class n w') is) w'
-        | inr new ↦ k.made of n (omega (arith, number_fresh heap o)) is
+        | inr new ↦ k.made of n (omega (arith, new.1, number_fresh heap o)) is
       ];
     }
 
@@ -189,7 +179,8 @@ write_shaped form heap owner p v shaped n o at =
     ]
 
 -- a write of a whole object into a field of its class
-pub writing : (form : Form) (heap : List Object) (owner p v class of : ℕ) → IsObjectOf heap class owner → slice_get (fields_of form class) p ≡ Some of → IsWhole form heap of v → Keeps form heap (write heap owner p v)
+pub writing : (form : Form) (heap : List Object) (owner p v class of : ℕ) → IsObjectOf heap class owner → slice_get (fields_of form class) p ≡ Some of
+    → IsWhole form heap of v → Keeps form heap (write heap owner p v)
 writing form heap owner p v class of is at w =
     let new = write heap owner p v in
     record {
@@ -205,7 +196,8 @@ writing form heap owner p v class of is at w =
       made = λ other n more has. absurd (omega (arith, number_within new other n has, write_length heap owner p v));
     }
   where
-    set_whole : (other n q end : ℕ) → IsObjectOf heap other n → slice_get (fields_of form other) q ≡ Some end → n ≡ owner → q ≡ p → get (write heap owner p v) n q ≡ v → IsWhole form heap end (get (write heap owner p v) n q)
+    set_whole : (other n q end : ℕ) → IsObjectOf heap other n → slice_get (fields_of form other) q ≡ Some end → n ≡ owner → q ≡ p
+        → get (write heap owner p v) n q ≡ v → IsWhole form heap end (get (write heap owner p v) n q)
     set_whole other n q end has at_q owned placed set =
         let one : other ≡ class = one_class heap other class owner (subst (IsObjectOf heap other) owned has) is in
         let found : Some end ≡ Some of = sym at_q ∙ ap (λ c. slice_get (fields_of form c) q) one ∙ ap (slice_get (fields_of form class)) placed ∙ at in
@@ -213,7 +205,8 @@ writing form heap owner p v class of is at w =
         subst (IsWhole form heap end) (sym set) (subst (λ c. IsWhole form heap c v) e w)
 
 -- what is written is there
-pub written : (form : Form) (heap : List Object) (owner p v class of : ℕ) → AreShaped form heap → IsObjectOf heap class owner → slice_get (fields_of form class) p ≡ Some of → get (write heap owner p v) owner p ≡ v
+pub written : (form : Form) (heap : List Object) (owner p v class of : ℕ) → AreShaped form heap → IsObjectOf heap class owner
+    → slice_get (fields_of form class) p ≡ Some of → get (write heap owner p v) owner p ≡ v
 written form heap owner p v class of shaped is at =
     let x = object_of heap class owner is in
     let s = shaped owner x.0 x.1 in

@@ -3,7 +3,7 @@ use Rattle.std.proofs.Common.{inl, inr, ◌≡◌, ℕ, zero, suc, ◌+◌, ◌<
 use Rattle.std.specs.Prelude.{Option, Some, None, slice_get, slice_index, slice_set, ◌⊎◌}
 use Rattle.std.specs.Option.{option_map, option_map_or}
 use Rattle.std.proofs.lemmas.Option.{slice_get_within}
-use Rattle.easl_model.proofs.Standing.{item_at}
+use Rattle.easl_model.proofs.Items.{item_at}
 use Rattle.easl_heap.specs.Heap.{Object, IsObjectOf, object_at, get, write, with_field}
 
 pub object_of : (heap : List Object) (class n : ℕ) → IsObjectOf heap class n → (o : Object) × (object_at heap n ≡ Some o) × (o.class ≡ class)
@@ -31,15 +31,16 @@ pub object_there : (heap : List Object) (n : ℕ) → 0 < n → n ≤ length hea
 object_there heap zero some within = absurd (omega arith)
 object_there heap (suc n) some within = item_at heap n within
 
--- a fresh object stands behind the others
-slice_before : (heap : List Object) (o x : Object) (n : ℕ) → slice_get heap n ≡ Some x → slice_get (heap ++ o ∷ []) n ≡ Some x
-slice_before [] o x n at = absurd (cc)
-slice_before (y ∷ heap) o x zero at = at
-slice_before (y ∷ heap) o x (suc n) at = slice_before heap o x n at
+-- what stands before others
+pub slice_before : {X : Type 0} (xs others : List X) (n : ℕ) (x : X) → slice_get xs n ≡ Some x → slice_get (xs ++ others) n ≡ Some x
+slice_before [] others n x at = absurd cc
+slice_before (y ∷ xs) others zero x at = at
+slice_before (y ∷ xs) others (suc n) x at = slice_before xs others n x at
 
+-- a fresh object stands behind the others
 pub at_before : (heap : List Object) (o x : Object) (n : ℕ) → object_at heap n ≡ Some x → object_at (heap ++ o ∷ []) n ≡ Some x
 at_before heap o x zero at = at
-at_before heap o x (suc n) at = slice_before heap o x n at
+at_before heap o x (suc n) at = slice_before heap (o ∷ []) n x at
 
 slice_last : (heap : List Object) (o : Object) → slice_get (heap ++ o ∷ []) (length heap) ≡ Some o
 slice_last [] o = refl
@@ -76,7 +77,8 @@ write_length [] (suc owner) p v = refl
 write_length (o ∷ heap) (suc zero) p v = refl
 write_length (o ∷ heap) (suc (suc owner)) p v = ap suc (write_length heap (suc owner) p v)
 
-pub write_cases : (heap : List Object) (owner p v n : ℕ) (o : Object) → object_at heap n ≡ Some o → (object_at (write heap owner p v) n ≡ Some o) ⊎ ((n ≡ owner) × (object_at (write heap owner p v) n ≡ Some (with_field p v o)))
+pub write_cases : (heap : List Object) (owner p v n : ℕ) (o : Object) → object_at heap n ≡ Some o
+    → (object_at (write heap owner p v) n ≡ Some o) ⊎ ((n ≡ owner) × (object_at (write heap owner p v) n ≡ Some (with_field p v o)))
 write_cases heap zero p v n o at = inl at
 write_cases [] (suc owner) p v n o at = inl at
 write_cases (x ∷ heap) (suc zero) p v zero o at = inl at
@@ -90,7 +92,8 @@ write_cases (x ∷ heap) (suc (suc owner)) p v (suc (suc n)) o at =
       | inr changed ↦ inr (ap suc changed.0, changed.1)
     ]
 
-pub write_there : (heap : List Object) (owner p v : ℕ) (o : Object) → object_at heap owner ≡ Some o → object_at (write heap owner p v) owner ≡ Some (with_field p v o)
+pub write_there : (heap : List Object) (owner p v : ℕ) (o : Object) → object_at heap owner ≡ Some o
+    → object_at (write heap owner p v) owner ≡ Some (with_field p v o)
 write_there heap zero p v o at = absurd (cc)
 write_there [] (suc owner) p v o at = absurd (cc)
 write_there (x ∷ heap) (suc zero) p v o at = let e : x ≡ o = cc in ap (λ y. Some (with_field p v y)) e
@@ -121,7 +124,8 @@ index_set_cases (x ∷ xs) (suc p) v (suc q) =
 pub got : (heap : List Object) (n p : ℕ) (o : Object) → object_at heap n ≡ Some o → get heap n p ≡ slice_index o.fields p
 got heap n p o at = ap (λ x. option_map_or (λ (y : Object). slice_index y.fields p) x 0) at
 
-pub get_cases : (heap : List Object) (owner p v n q : ℕ) (o : Object) → object_at heap n ≡ Some o → (get (write heap owner p v) n q ≡ get heap n q) ⊎ ((n ≡ owner) × (q ≡ p) × (get (write heap owner p v) n q ≡ v))
+pub get_cases : (heap : List Object) (owner p v n q : ℕ) (o : Object) → object_at heap n ≡ Some o
+    → (get (write heap owner p v) n q ≡ get heap n q) ⊎ ((n ≡ owner) × (q ≡ p) × (get (write heap owner p v) n q ≡ v))
 get_cases heap owner p v n q o at =
     let new = write heap owner p v in
     elim (write_cases heap owner p v n o at) [
@@ -137,6 +141,7 @@ set_within [] p v within = absurd (omega arith)
 set_within (x ∷ xs) zero v within = refl
 set_within (x ∷ xs) (suc p) v within = set_within xs p v (omega arith)
 
-pub get_written : (heap : List Object) (owner p v : ℕ) (o : Object) → object_at heap owner ≡ Some o → p < length o.fields → get (write heap owner p v) owner p ≡ v
+pub get_written : (heap : List Object) (owner p v : ℕ) (o : Object) → object_at heap owner ≡ Some o → p < length o.fields
+    → get (write heap owner p v) owner p ≡ v
 get_written heap owner p v o at within =
     got (write heap owner p v) owner p (with_field p v o) (write_there heap owner p v o at) ∙ set_within o.fields p v within

@@ -1,3 +1,4 @@
+//! The heap, and what is executed on it.
 use crate::body::{Done, execute};
 use crate::clause::first_false;
 use crate::object::Object;

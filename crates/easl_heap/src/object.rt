@@ -1,3 +1,4 @@
+//! The objects of a heap.
 use arrayvec::ArrayVec;
 use std::marker::Model;
 

@@ -2,7 +2,7 @@ use Rattle.std.proofs.Common.{rules, arith, ap, ◌∙◌, List, Bor}
 use Rattle.easl_model.specs.Conditions.{condition_of}
 use Rattle.easl_model.specs.Statements.{statement_of, statements_of}
 use Rattle.easl_model.specs.declared.form.Act.{Act}
-use Rattle.easl_model.proofs.Acts.{if_statement}
+use Rattle.easl_model.proofs.Folds.{if_act}
 use Rattle.easl_heap.specs.Body.{made, moment}
 use Rattle.easl_heap.proofs.Branches.{branch_ended}
 use Rattle.easl_heap.proofs.Called.{constructed}
@@ -51,7 +51,7 @@ step-returns-after-holds-clause-comes t c =
     (moment c.run-steps.new.objects.items c.run-steps.new.slots.items c.run-steps.result)
     c.truncate.new.self.items
     c.holds.result
-    (ap statement_of c.in-If.is ∙ if_statement c.in-If.test c.in-If.first c.in-If.second)
+    (ap statement_of c.in-If.is ∙ if_act c.in-If.test c.in-If.first c.in-If.second)
     (search rules)
     (elim c.if-holds.branch [
       | step-then-holds w ↦ rw w.if-holds.true (ap statements_of (ap (λ (x : Bor (List Act)). x.now) w.acts-is ∙ w.as_slice-acts.ensures))
