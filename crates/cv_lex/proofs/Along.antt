@@ -1,61 +1,23 @@
 -- How the reading goes along a text, piece by piece.
-use Rattle.std.proofs.Common.{◌≡◌, ◌≢◌, ℕ, zero, suc, ◌+◌, inl, inr, slice_index, zero-add, get_or, length-drop, ◌<◌, ◌≤◌, true, Option, Some, None, List, [], ◌∷◌, ◌++◌, length, take, drop, All, IsAscii, chars, refl, sym, ap, ◌∙◌, subst, arith, append_assoc, append-nil, take-append-drop}
-use lib.Utf8.{scalar}
-use Rattle.std.specs.Str.{all_scalars}
-use Rattle.std.proofs.lemmas.Bool.{cases_lt, and_from}
-use Rattle.std.proofs.lemmas.Bool.Decides.{nat_tests}
-use Rattle.std.proofs.lemmas.List.{drop-drop, length-take-le, drop_all, take_all, take_more, get_or_past}
-use Rattle.std.proofs.lemmas.List.Elements.{All-head, All-tail, All-take}
-use Rattle.std.proofs.lemmas.Str.{encodes-IsAscii, IsUtf8-from_ascii, chars-encodes}
+use Rattle.std.proofs.Common.{◌≡◌, ℕ, ◌+◌, get_or, length-drop, ◌<◌, ◌≤◌, Option, Some, None, Result, Ok, Err, IfOk, List, [], ◌∷◌, ◌++◌, length, take, drop, All, IsUtf8, chars, encode_utf8_all, sym, ap, ◌∙◌, subst, arith, append_assoc, append-nil, take-append-drop}
+use Rattle.std.proofs.lemmas.List.{drop-drop, drop_all, take_all, take_more}
+use Rattle.std.proofs.lemmas.Str.{encodes-chars}
 use Rattle.easl_model.specs.declared.place.Place.{Place}
 use Rattle.easl_model.specs.declared.token.Kind.{Kind}
 use Rattle.easl_model.specs.declared.token.Token.{Token}
 use Rattle.easl_model.specs.declared.token.Tokens.{Tokens}
-use Rattle.easl_model.specs.Tokens.{byte_len, place_after, token_at, Cut, done, gap, token, AreTokens}
-use Rattle.easl_model.proofs.Cuts.{behind_gap, behind_token}
+use Rattle.easl_model.specs.Tokens.{byte_len, place_after, token_at, CutTo, Cut, done, gap, token, IsPart, IsPiece, NoPiece, IsStuckAt}
+use Rattle.easl_model.proofs.Cuts.{byte_len-append, parts}
 use Rattle.cv_lex.specs.declared.piece.Piece.{Piece}
-use Rattle.cv_lex.specs.declared.scan.Spot.{Spot}
+use Rattle.cv_lex.specs.declared.spot.Spot.{Spot}
 use Rattle.cv_lex.specs.declared.fault.TextFault.{TextFault}
-use Rattle.cv_lex.specs.declared.fault.TextFault.TheVariants.{NotUtf8, BadToken, Syntax, Limit, NotBuilt, Memory}
-use Rattle.cv_lex.specs.Form.{IsPlain, IsOfForm, Refuses}
-use Rattle.cv_lex.specs.Reading.{IsPiece, NoPiece, IsFront, IsSpot, token_from, Leads}
+use Rattle.cv_lex.specs.declared.fault.TextFault.TheVariants.{NotUtf8, BadToken, Syntax, Limit, Memory}
+use Rattle.cv_lex.specs.Form.{Answers}
+use Rattle.cv_lex.specs.Reading.{IsFront, IsSpot, token_from, Leads, RefusesStep, CutAnswers, RefusesBytes}
+use Rattle.cv_lex.proofs.Lists.{take_add}
 
-ascii : (text : List ℕ) → IsOfForm text → IsAscii text
-ascii text form i = elim (cases_lt i (length text)) [
-  | inl within ↦ (form i 0 within).0
-  | inr past ↦ let e : slice_index text i ≡ 0 = get_or_past text i 0 past in omega arith
-]
-
-ascii_scalar : (c : ℕ) → c < 128 → scalar c ≡ true
-ascii_scalar c low = grind (arith, nat_tests)
-
-scalars : (cs : List ℕ) → All IsPlain cs → all_scalars cs ≡ true
-scalars [] form = refl
-scalars (c ∷ cs) form =
-    let low : c < 128 = (All-head IsPlain c cs form).0 in
-    and_from _ _ (ascii_scalar c low) (scalars cs (All-tail IsPlain c cs form))
-
-chars_same : (text : List ℕ) → IsOfForm text → chars text ≡ text
-chars_same text form = ap chars (sym (encodes-IsAscii text (ascii text form))) ∙ chars-encodes text (scalars text form)
-
-byte_len_same : (text : List ℕ) → IsOfForm text → byte_len text ≡ length text
-byte_len_same text form = ap length (encodes-IsAscii text (ascii text form))
-
-take_add : (m n : ℕ) (xs : List ℕ) → take (m + n) xs ≡ take m xs ++ take n (drop m xs)
-take_add zero n xs = ap (λ k. take k xs) (zero-add n)
-take_add (suc m) n [] = take_all (suc m + n) [] (omega arith) ∙ sym (take_all n [] (omega arith))
-take_add (suc m) n (x ∷ xs) =
-    let sizes : suc m + n ≡ suc (m + n) = omega arith in
-    ap (λ k. take k (x ∷ xs)) sizes ∙ ap (λ ys. x ∷ ys) (take_add m n xs)
-
-pub leads_more : (text : List ℕ) (a b c : ℕ) (xs ys : List Token) → Leads text a xs b → Leads text b ys c → Leads text a (xs ++ ys) c
-leads_more text a b c xs ys f g = record {
-  on = λ ts cut. subst (Cut (take a text) (drop a text)) (sym (append_assoc xs ys ts)) (f.on (ys ++ ts) (g.on ts cut));
-  back = λ all cut.
-      let first = f.back all cut in
-      let second = g.back first.0 first.2 in
-      (second.0, first.1 ∙ ap (λ ts. xs ++ ts) second.1 ∙ sym (append_assoc xs ys second.0), second.2);
-}
+pub leads_more : (cs : List ℕ) (a b c : ℕ) (xs ys : List Token) → Leads cs a xs b → Leads cs b ys c → Leads cs a (xs ++ ys) c
+leads_more cs a b c xs ys f g = λ left ts cut. subst (CutTo left (take a cs) (drop a cs)) (sym (append_assoc xs ys ts)) (f left (ys ++ ts) (g left ts cut))
 
 same_token : (k : Kind) (a b c d : ℕ) (p q : Place) → a ≡ b → c ≡ d → p ≡ q → (let T : Token = record { kind = k; start = a; end = c; place = p } in T) ≡ record { kind = k; start = b; end = d; place = q }
 same_token k a b c d p q e f g =
@@ -64,87 +26,99 @@ same_token k a b c d p q e f g =
     let with_place : Place → Token = λ x. record { kind = k; start = b; end = d; place = x } in
     ap with_start e ∙ ap with_end f ∙ ap with_place g
 
-module _ (text : List ℕ) (spot : Spot) (p : Piece) (next : ℕ) (form : IsOfForm text) (s : IsSpot text spot) (f : IsFront (drop spot.at text) p) (e : next ≡ spot.at + p.length) where
+module _ (text : List ℕ) (spot : Spot) (p : Piece) (next offset : ℕ) (s : IsSpot text spot) (f : IsFront (drop spot.at text) p) (e : next ≡ spot.at + p.length) (o : offset ≡ spot.offset + byte_len (take p.length (drop spot.at text))) where
   abbrev before : List ℕ
   before = take spot.at text
 
-  abbrev cs : List ℕ
-  cs = take p.length (drop spot.at text)
+  abbrev used : List ℕ
+  used = take p.length (drop spot.at text)
 
   abbrev rest : List ℕ
   rest = drop p.length (drop spot.at text)
 
-  all_before : take next text ≡ before ++ cs
+  all_before : take next text ≡ before ++ used
   all_before = ap (λ n. take n text) e ∙ take_add spot.at p.length text
 
   all_behind : drop next text ≡ rest
   all_behind = ap (λ n. drop n text) e ∙ sym (drop-drop p.length spot.at text)
 
-  joined : cs ++ rest ≡ drop spot.at text
+  joined : used ++ rest ≡ drop spot.at text
   joined = take-append-drop p.length (drop spot.at text)
 
   next_within : next ≤ length text
   next_within = omega (arith, f.within, length-drop spot.at text, s.within)
 
-  moved_to : (ts : List Token) → Cut (take next text) (drop next text) ts → Cut (before ++ cs) rest ts
-  moved_to ts c = subst (λ x. Cut (before ++ cs) x ts) all_behind (subst (λ x. Cut x (drop next text) ts) all_before c)
+  offset_there : byte_len (before ++ used) ≡ offset
+  offset_there = byte_len-append before used ∙ ap (λ n. n + byte_len used) (sym s.offset) ∙ sym o
 
-  moved_from : (ts : List Token) → Cut (before ++ cs) rest ts → Cut (take next text) (drop next text) ts
-  moved_from ts c = subst (λ x. Cut x (drop next text) ts) (sym all_before) (subst (λ x. Cut (before ++ cs) x ts) (sym all_behind) c)
+  moved_to : (left : List ℕ) (ts : List Token) → CutTo left (take next text) (drop next text) ts → CutTo left (before ++ used) rest ts
+  moved_to left ts c = subst (λ x. CutTo left (before ++ used) x ts) all_behind (subst (λ x. CutTo left x (drop next text) ts) all_before c)
 
-  token_same : (k : Kind) → token_at before k cs ≡ record { kind = k; start = spot.at; end = next; place = spot.place }
-  token_same k =
-      let start : byte_len before ≡ spot.at = byte_len_same before (All-take IsPlain spot.at text form) ∙ length-take-le spot.at text s.within in
-      let end : byte_len (before ++ cs) ≡ next = ap byte_len (sym all_before) ∙ byte_len_same (take next text) (All-take IsPlain next text form) ∙ length-take-le next text next_within in
-      same_token k _ _ _ _ _ _ start end (sym s.place)
+  token_same : (k : Kind) → token_at before k used ≡ record { kind = k; start = spot.offset; end = offset; place = spot.place }
+  token_same k = same_token k _ _ _ _ _ _ (sym s.offset) offset_there (sym s.place)
 
-  leads_by : (k : Option Kind) → IsPiece k cs rest → Leads text spot.at (token_from k spot next) next
-  leads_by None g = record {
-    on = λ ts c. subst (λ x. Cut before x ts) joined (gap before cs rest ts g (moved_to ts c));
-    back = λ all c. (all, refl, moved_from all (behind_gap before cs rest (drop spot.at text) all g c (sym joined)));
-  }
-  leads_by (Some k) l = record {
-    on = λ ts c. subst (λ t. Cut before (drop spot.at text) (t ∷ ts)) (token_same k) (subst (λ x. Cut before x (token_at before k cs ∷ ts)) joined (token k before cs rest ts l (moved_to ts c)));
-    back = λ all c.
-        let w = behind_token k before cs rest (drop spot.at text) all l c (sym joined) in
-        (w.0, w.1 ∙ ap (λ t. t ∷ w.0) (token_same k), moved_from w.0 w.2);
-  }
+  leads_by : (k : Option Kind) → IsPiece k used rest → Leads text spot.at (token_from k spot offset) next
+  leads_by None g = λ left ts c. subst (λ x. CutTo left before x ts) joined (gap before used rest ts g (moved_to left ts c))
+  leads_by (Some k) l = λ left ts c.
+      subst (λ t. CutTo left before (drop spot.at text) (t ∷ ts)) (token_same k) (subst (λ x. CutTo left before x (token_at before k used ∷ ts)) joined (token k before used rest ts l (moved_to left ts c)))
 
-  pub leads_piece : Leads text spot.at (token_from p.kind spot next) next
+  pub leads_piece : Leads text spot.at (token_from p.kind spot offset) next
   leads_piece = leads_by p.kind f.piece
 
-  pub spot_behind : (place : Place) → place ≡ place_after (before ++ cs) → IsSpot text (record { at = next; place = place })
-  spot_behind place g = record { within = next_within; place = g ∙ ap place_after (sym all_before) }
+  pub spot_behind : (place : Place) → place ≡ place_after (before ++ used) → IsSpot text (record { at = next; offset = offset; place = place })
+  spot_behind place g = record {
+    within = next_within;
+    offset = sym offset_there ∙ ap byte_len (sym all_before);
+    place = g ∙ ap place_after (sym all_before);
+  }
 
-pub whole : (text : List ℕ) (list : List Token) (spot : Spot) → IsOfForm text → IsSpot text spot → Leads text 0 list spot.at → length text ≤ spot.at → AreTokens text (record { list = list; end = spot.place })
-whole text list spot form s l e =
-    let end : Cut (take spot.at text) (drop spot.at text) [] = subst (λ x. Cut (take spot.at text) x []) (sym (drop_all spot.at text e)) (done (take spot.at text)) in
-    let cut : Cut [] text list = subst (Cut [] text) (append-nil list) (l.on [] end) in
-    record {
-      utf8 = IsUtf8-from_ascii text (ascii text form);
-      cut = subst (λ x. Cut [] x list) (sym (chars_same text form)) cut;
-      end = s.place ∙ ap place_after (take_all spot.at text e ∙ sym (chars_same text form));
-    }
+pub whole : (cs : List ℕ) (list : List Token) (spot : Spot) → IsSpot cs spot → Leads cs 0 list spot.at → length cs ≤ spot.at → Cut [] cs list × (spot.place ≡ place_after cs)
+whole cs list spot s l e =
+    let end : CutTo [] (take spot.at cs) (drop spot.at cs) [] = subst (λ x. CutTo [] (take spot.at cs) x []) (sym (drop_all spot.at cs e)) (done (take spot.at cs)) in
+    (subst (Cut [] cs) (append-nil list) (l [] [] end), s.place ∙ ap place_after (take_all spot.at cs e))
 
-pub refuses_weaker : (e : TextFault) {P Q : Type 0} → (P → Q) → Refuses e P → Refuses e Q
-refuses_weaker NotBuilt f p = f p
-refuses_weaker Memory f p = tt
-refuses_weaker (NotUtf8 at) f p = p
-refuses_weaker (BadToken at) f p = p
-refuses_weaker (Syntax at) f p = p
-refuses_weaker (Limit w at) f p = p
+stuck : (cs : List ℕ) (list : List Token) (spot : Spot) (place : Place) → IsSpot cs spot → Leads cs 0 list spot.at → spot.at < length cs → NoPiece (drop spot.at cs) → place ≡ spot.place → IsStuckAt cs place
+stuck cs list spot place s l more none e = record {
+  before = take spot.at cs;
+  left = drop spot.at cs;
+  tokens = list;
+  split = sym (take-append-drop spot.at cs);
+  cut = subst (CutTo (drop spot.at cs) [] cs) (append-nil list) (l (drop spot.at cs) [] (done (take spot.at cs)));
+  some = λ g. absurd (omega (arith, ap length g, length-drop spot.at cs));
+  none = none;
+  place = e ∙ s.place;
+}
+
+pub refused : (cs : List ℕ) (list : List Token) (spot : Spot) (e : TextFault) → IsSpot cs spot → Leads cs 0 list spot.at → spot.at < length cs → RefusesStep e (drop spot.at cs) spot.place → CutAnswers cs (Err e)
+refused cs list spot (BadToken p) s l more r = stuck cs list spot p s l more r.1 r.0
+refused cs list spot Memory s l more r = tt
+refused cs list spot (NotUtf8 p) s l more r = r
+refused cs list spot (Syntax p) s l more r = r
+refused cs list spot (Limit w p) s l more r = r
 
 -- one more character further
-pub further : (cs : List ℕ) (i : ℕ) (start place next : Place) → i < length cs → ((b : List ℕ) → start ≡ place_after b → place ≡ place_after (b ++ take i cs)) → ((b : List ℕ) → place ≡ place_after b → next ≡ place_after (b ++ get_or cs i 0 ∷ [])) → (b : List ℕ) → start ≡ place_after b → next ≡ place_after (b ++ take (i + 1) cs)
-further cs i start place next h so_far step b e =
-    step (b ++ take i cs) (so_far b e) ∙ ap place_after (append_assoc b (take i cs) (get_or cs i 0 ∷ []) ∙ ap (λ x. b ++ x) (sym (take_more cs i 0 h)))
+pub further : (cs : List ℕ) (i character : ℕ) (start place next : Place) → i < length cs → character ≡ get_or cs i character → ((b : List ℕ) → start ≡ place_after b → place ≡ place_after (b ++ take i cs)) → ((b : List ℕ) → place ≡ place_after b → next ≡ place_after (b ++ character ∷ [])) → (b : List ℕ) → start ≡ place_after b → next ≡ place_after (b ++ take (i + 1) cs)
+further cs i character start place next h there so_far step b e =
+    step (b ++ take i cs) (so_far b e) ∙ ap place_after (append_assoc b (take i cs) (character ∷ []) ∙ ap (λ x. b ++ x) (ap (λ x. take i cs ++ x ∷ []) there ∙ sym (take_more cs i character h)))
 
-no_cut : (before cs : List ℕ) (ts : List Token) → NoPiece cs → cs ≢ [] → Cut before cs ts → ⊥
-no_cut _ _ _ none some (done b) = some refl
-no_cut _ _ _ none some (gap b q s ts h c) = none None q s refl h
-no_cut _ _ _ none some (token k b q s ts l c) = none (Some k) q s refl l
+pub answers_bytes : (text cs : List ℕ) → IsUtf8 text → cs ≡ chars text → text ≡ encode_utf8_all cs
+answers_bytes text cs u e = sym (ap encode_utf8_all e ∙ encodes-chars text u)
 
-pub refused : (text : List ℕ) (list : List Token) (at : ℕ) → IsOfForm text → Leads text 0 list at → at < length text → NoPiece (drop at text) → (x : Tokens) → AreTokens text x → ⊥
-refused text list at form l more none x t =
-    let w = l.back x.list (subst (λ y. Cut [] y x.list) (chars_same text form) t.cut) in
-    no_cut (take at text) (drop at text) w.0 none (λ e. absurd (omega (arith, ap length e, length-drop at text))) w.2
+pub no_bytes : (text : List ℕ) (e : TextFault) → RefusesBytes text e → Answers text (Err e)
+no_bytes text (NotUtf8 p) r = r
+no_bytes text Memory r = tt
+no_bytes text (BadToken p) r = absurd r
+no_bytes text (Syntax p) r = absurd r
+no_bytes text (Limit w p) r = absurd r
+
+pub answers : (text cs : List ℕ) (r : Result Tokens TextFault) → IsUtf8 text → cs ≡ chars text → CutAnswers cs r → Answers text r
+answers text cs (Ok x) u e a = record { utf8 = u; cut = subst (λ m. Cut [] m x.list) e a.0; end = a.1 ∙ ap place_after e }
+answers text cs (Err (BadToken p)) u e a = (u, subst (λ m. IsStuckAt m p) e a)
+answers text cs (Err Memory) u e a = tt
+answers text cs (Err (NotUtf8 p)) u e a = absurd a
+answers text cs (Err (Syntax p)) u e a = absurd a
+answers text cs (Err (Limit w p)) u e a = absurd a
+
+pub answers_parts : (text : List ℕ) (r : Result Tokens TextFault) → Answers text r → IfOk r (λ x. All (IsPart text) x.list)
+answers_parts text (Ok x) a = parts text x a
+answers_parts text (Err e) a = tt

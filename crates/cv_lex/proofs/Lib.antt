@@ -1,4 +1,11 @@
 pub mod Along
+pub mod Bytes
+pub mod Comments
+pub mod Decoding
 pub mod Fronts
+pub mod Lists
 pub mod Longest
+pub mod Quotes
 pub mod Runs
+pub mod Single
+pub mod Words

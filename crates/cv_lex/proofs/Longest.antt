@@ -16,7 +16,7 @@ same_group : (j k : Kind) (cs more : List ℕ) → IsToken k cs → IsToken j (c
 same_group j k [] more t u = absurd (token_some k t)
 same_group j k (c ∷ cs) more t u = sym (begins_token j c (cs ++ more) u) ∙ begins_token k c cs t
 
-pub word_of : (k : Kind) (cs : List ℕ) → group_of k ≡ Words → IsToken k cs → IsWord cs
+word_of : (k : Kind) (cs : List ℕ) → group_of k ≡ Words → IsToken k cs → IsWord cs
 word_of kind.Name cs e t = t.0
 word_of (kind.Key k) cs e t = subst IsWord (sym t) (key_is_word k)
 word_of k cs e t = cc

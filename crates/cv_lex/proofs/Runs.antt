@@ -11,10 +11,10 @@ abbrev pub Stops : (ℕ → Bool) → List ℕ → Type 0
 Stops p [] = Unit {0}
 Stops p (c ∷ cs) = p c ≡ false
 
-pub prefix_yes : (p : ℕ → Bool) (c : ℕ) (cs : List ℕ) → p c ≡ true → prefix_len p (c ∷ cs) ≡ suc (prefix_len p cs)
+prefix_yes : (p : ℕ → Bool) (c : ℕ) (cs : List ℕ) → p c ≡ true → prefix_len p (c ∷ cs) ≡ suc (prefix_len p cs)
 prefix_yes p c cs h = cond-true (p c) (1 + prefix_len p cs) 0 h ∙ one-add (prefix_len p cs)
 
-pub prefix_no : (p : ℕ → Bool) (c : ℕ) (cs : List ℕ) → p c ≡ false → prefix_len p (c ∷ cs) ≡ 0
+prefix_no : (p : ℕ → Bool) (c : ℕ) (cs : List ℕ) → p c ≡ false → prefix_len p (c ∷ cs) ≡ 0
 prefix_no p c cs h = cond-false (p c) (1 + prefix_len p cs) 0 h
 
 pub passes : (p : ℕ → Bool) (cs : List ℕ) → AllPassing p (take (prefix_len p cs) cs)

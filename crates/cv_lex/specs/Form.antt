@@ -1,26 +1,18 @@
--- The texts that are taken so far, and what is answered for a text.
-use Rattle.std.specs.Prelude.{ℕ, ◌<◌, ◌≢◌, List, All, Result, Ok, Err}
+-- What is answered for a text.
+use Rattle.std.specs.Prelude.{◌≡◌, ◌≢◌, List, ℕ, Result, Ok, Err}
 use Rattle.easl_model.specs.declared.token.Tokens.{Tokens}
-use Rattle.easl_model.specs.Tokens.{AreTokens}
+use Rattle.easl_model.specs.Tokens.{AreTokens, IsNotUtf8At, IsBadTokenAt}
 use Rattle.cv_lex.specs.declared.fault.TextFault.{TextFault}
-use Rattle.cv_lex.specs.declared.fault.TextFault.TheVariants.{NotUtf8, BadToken, Syntax, Limit, NotBuilt, Memory}
-
--- the byte is that of an ASCII character, but neither `/` nor `\`
-abbrev pub IsPlain : ℕ → Type 0
-IsPlain b = (b < 128) × (b ≢ 47) × (b ≢ 92)
-
-abbrev pub IsOfForm : List ℕ → Type 0
-IsOfForm text = All IsPlain text
-
--- so far a text is refused for this reason alone, or for want of memory
-abbrev pub Refuses : TextFault → Type 0 → Type 0
-Refuses NotBuilt P = P
-Refuses Memory P = Unit {0}
-Refuses (NotUtf8 p) P = ⊥
-Refuses (BadToken p) P = ⊥
-Refuses (Syntax p) P = ⊥
-Refuses (Limit w p) P = ⊥
+use Rattle.cv_lex.specs.declared.fault.TextFault.TheVariants.{NotUtf8, BadToken, Syntax, Limit, Memory}
 
 abbrev pub Answers : List ℕ → Result Tokens TextFault → Type 0
-Answers text (Ok x) = IsOfForm text × AreTokens text x
-Answers text (Err e) = Refuses e (IsOfForm text → (x : Tokens) → AreTokens text x → ⊥)
+Answers text (Ok x) = AreTokens text x
+Answers text (Err (NotUtf8 place)) = IsNotUtf8At text place
+Answers text (Err (BadToken place)) = IsBadTokenAt text place
+Answers text (Err Memory) = Unit {0}
+Answers text (Err (Syntax place)) = ⊥
+Answers text (Err (Limit which place)) = ⊥
+
+-- a text has one answer, want of memory aside
+abbrev pub OneAnswer : Type 0
+OneAnswer = (text : List ℕ) (r s : Result Tokens TextFault) → r ≢ Err Memory → s ≢ Err Memory → Answers text r → Answers text s → r ≡ s

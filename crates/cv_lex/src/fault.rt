@@ -1,16 +1,17 @@
+//! Why a text does not become tokens.
 ghost use Rattle.std.specs.Prelude.{◌≡◌};
 
-use easl_model::Place;
+use easl_model::{Place, Which};
 use std::alloc::AllocError;
 use thiserror::Error;
 
 /// Why a text is not taken.
 #[derive(Clone, Copy, Debug, Drop, PartialEq, Eq, Error)]
 pub enum TextFault {
-    /// At this place stands a byte that no valid character has there.
+    /// The bytes are no UTF-8: the longest front that is UTF-8 ends at this place.
     #[error("not UTF-8 at {}:{}", .0.line, .0.col)]
     NotUtf8(Place),
-    /// No token begins at this place.
+    /// What stands before this place is cut into gaps and tokens, and neither begins here.
     #[error("no token at {}:{}", .0.line, .0.col)]
     BadToken(Place),
     /// The tokens before this place begin a text of the grammar, and with the next one they begin none.
@@ -19,9 +20,6 @@ pub enum TextFault {
     /// What begins at this place is more than the limit allows.
     #[error("over the limit {:?} at {}:{}", .0, .1.line, .1.col)]
     Limit(Which, Place),
-    /// The bytes are no tokens of the form that is read so far.
-    #[error("not built")]
-    NotBuilt,
     /// No memory was found.
     #[error("out of memory")]
     Memory,
@@ -35,18 +33,4 @@ impl From<AllocError> for TextFault {
     fn from(_error: AllocError) -> TextFault {
         TextFault::Memory
     }
-}
-
-/// What a limit counts.
-#[derive(Clone, Copy, Debug, PartialEq, Eq)]
-pub enum Which {
-    Nesting,
-    Classes,
-    Fields,
-    Methods,
-    Parameters,
-    Clauses,
-    Comparisons,
-    Statements,
-    Path,
 }

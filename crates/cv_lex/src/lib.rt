@@ -1,9 +1,13 @@
-//! Cuts a text into its tokens. So far it takes texts without comments, escapes and characters past ASCII.
+//! Cuts a text into its tokens.
 #![tactic(auto)]
 
+mod comment;
 mod fault;
 mod piece;
+mod quoted;
 mod scan;
+mod spot;
 
-pub use fault::{TextFault, Which};
-pub use scan::{one_list_of_tokens, tokens};
+pub use easl_model::Which;
+pub use fault::TextFault;
+pub use scan::{one_answer, one_list_of_tokens, tokens};

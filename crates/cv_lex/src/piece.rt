@@ -1,38 +1,43 @@
-//! What begins at the front of a text: white space, or a token.
-ghost use Rattle.std.specs.Prelude.{◌≡◌, [], ◌∷◌, ◌==◌, ◌↔◌, length, slice_get, IsTrue};
+//! What begins at the front of a text: a gap, or a token.
+ghost use Rattle.std.specs.Prelude.{◌≡◌, ◌≤◌, [], ◌∷◌, ◌==◌, ◌&&◌, not, length, encode_utf8_all, IsTrue};
 ghost use Rattle.std.specs.List.{prefix_len};
 ghost use Rattle.std.specs.Char.{is_ascii_digit};
-ghost use Rattle.easl_model.specs.Tokens.{key_text, mark_text, is_white, quote};
-ghost use Rattle.cv_lex.specs.Form.{IsOfForm};
-ghost use Rattle.cv_lex.specs.Reading.{begins_word, continues_word, is_inside_quotes, begins_mark, BeginsWith, IsFront, FindsPiece, FindsWritten, FindsLong};
+ghost use Rattle.unicode_ident.specs.Ident.{is_xid_continue};
+ghost use Rattle.easl_model.specs.Tokens.{key_text, mark_text, begins_name, byte_len, is_white, quote};
+ghost use Rattle.cv_lex.specs.Reading.{slash, begins_other, BeginsWith, IsFront, FindsPiece, FindsWritten, FindsLong};
 
+use crate::comment::comment;
+use crate::quoted::quoted_length;
+use crate::spot::byte_len;
 use easl_model::{Key, Kind, Mark};
+use unicode_ident::{is_xid_continue, is_xid_start};
 
-/// A piece at the front of a text: the kind of its token, or None for white space, and its length in bytes.
+/// A piece at the front of a text: the kind of its token, or None for a gap, and its length in characters.
 #[derive(Clone, Copy, Debug, PartialEq, Eq)]
 pub struct Piece {
     pub kind: Option<Kind>,
     pub length: usize,
 }
 
-/// The piece at the front, or None where none begins.
-pub fn first_piece(text: &[u8]) -> Option<Piece>
-    requires { IsOfForm text.now }
-    ensures { FindsPiece text.now result }
+/// The piece at the front of the characters, which have these bytes, or None where none begins.
+pub fn first_piece(characters: &[char], bytes: &[u8]) -> Option<Piece>
+    requires short { length bytes.now ≤ 67108864 }
+    requires bytes { bytes.now ≡ encode_utf8_all characters.now }
+    ensures { FindsPiece characters.now result }
 {
-    match text.first()? {
-        b' ' | b'\t' | b'\r' | b'\n' => Some(white(text)),
-        b'a'..=b'z' | b'A'..=b'Z' | b'_' => Some(word(text)),
-        b'0'..=b'9' => Some(number(text)),
-        b'"' => quoted(text),
-        _ => mark(text),
+    match *characters.first()? {
+        ' ' | '\t' | '\r' | '\n' => Some(white(characters)),
+        '/' => comment(characters),
+        '0'..='9' => Some(number(characters)),
+        '"' => quoted(characters),
+        _ => word_or_mark(characters, bytes),
     }
 }
 
 #[tactic(auto, using(crate::proofs::Fronts::white_front))]
-fn white(text: &[u8]) -> Piece
-    requires { BeginsWith is_white text.now }
-    ensures { IsFront text.now result }
+fn white(characters: &[char]) -> Piece
+    requires { BeginsWith is_white characters.now }
+    ensures { IsFront characters.now result }
 {
     Piece {
         kind: None,
@@ -49,33 +54,48 @@ fn token(kind: Kind, length: usize) -> Piece
     }
 }
 
-/// The name or the keyword at the front.
-#[tactic(auto, using(crate::proofs::Fronts::key_front, crate::proofs::Fronts::name_front, crate::proofs::Fronts::length_fits))]
-fn word(text: &[u8]) -> Piece
-    requires form { IsOfForm text.now }
-    requires word { BeginsWith begins_word text.now }
-    ensures { IsFront text.now result }
+fn word_or_mark(characters: &[char], bytes: &[u8]) -> Option<Piece>
+    requires short { length bytes.now ≤ 67108864 }
+    requires bytes { bytes.now ≡ encode_utf8_all characters.now }
+    requires other { BeginsWith begins_other characters.now }
+    ensures { FindsPiece characters.now result }
 {
-    let length = 1 + word_length(&text[1..]);
-    match key(&text[..length]) {
+    if begins_word(characters[0]) {
+        Some(word(characters, bytes))
+    } else {
+        mark(characters)
+    }
+}
+
+fn begins_word(character: char) -> bool
+    ensures { result ≡ begins_name character }
+{
+    is_xid_start(character) | (character == '_')
+}
+
+/// The name or the keyword at the front.
+#[tactic(auto, using(crate::proofs::Words::key_front, crate::proofs::Words::name_front, crate::proofs::Fronts::length_fits))]
+fn word(characters: &[char], bytes: &[u8]) -> Piece
+    requires short { length bytes.now ≤ 67108864 }
+    requires bytes { bytes.now ≡ encode_utf8_all characters.now }
+    requires word { BeginsWith begins_name characters.now }
+    ensures { IsFront characters.now result }
+{
+    let length = 1 + word_length(&characters[1..]);
+    match key(&bytes[..byte_len(&characters[..length])]) {
         Some(key) => token(Kind::Key(key), length),
         None => token(Kind::Name, length),
     }
 }
 
-/// How many bytes at the front continue a word.
-fn word_length(text: &[u8]) -> usize
-    ensures { result ≡ prefix_len continues_word text.now }
+/// How many characters at the front continue a word.
+fn word_length(characters: &[char]) -> usize
+    ensures { result ≡ prefix_len is_xid_continue characters.now }
 {
-    text.iter()
-        .take_while(|byte| continues_word(**byte))
+    characters
+        .iter()
+        .take_while(|character| is_xid_continue(**character))
         .count()
-}
-
-fn continues_word(byte: u8) -> bool
-    ensures { result ≡ continues_word byte }
-{
-    byte.is_ascii_alphanumeric() || byte == b'_'
 }
 
 /// The keyword that the word is.
@@ -108,103 +128,82 @@ fn key(word: &[u8]) -> Option<Key>
 
 /// The number at the front.
 #[tactic(auto, using(crate::proofs::Fronts::number_front, crate::proofs::Fronts::length_fits))]
-fn number(text: &[u8]) -> Piece
-    requires { BeginsWith is_ascii_digit text.now }
-    ensures { IsFront text.now result }
+fn number(characters: &[char]) -> Piece
+    requires { BeginsWith is_ascii_digit characters.now }
+    ensures { IsFront characters.now result }
 {
-    token(Kind::Number, 1 + number_length(&text[1..]))
+    token(Kind::Number, 1 + number_length(&characters[1..]))
 }
 
-/// How many bytes at the front are digits.
-fn number_length(text: &[u8]) -> usize
-    ensures { result ≡ prefix_len is_ascii_digit text.now }
+/// How many characters at the front are digits.
+fn number_length(characters: &[char]) -> usize
+    ensures { result ≡ prefix_len is_ascii_digit characters.now }
 {
-    text.iter().take_while(|byte| byte.is_ascii_digit()).count()
-}
-
-/// The quoted text at the front, which the next quote on its line ends.
-#[tactic(auto, using(crate::proofs::Fronts::quoted_front, crate::proofs::Fronts::no_quoted, crate::proofs::Fronts::length_fits))]
-fn quoted(text: &[u8]) -> Option<Piece>
-    requires form { IsOfForm text.now }
-    requires quoted { BeginsWith (λ b. b == quote) text.now }
-    ensures { FindsPiece text.now result }
-{
-    let inside = quoted_length(&text[1..]);
-    if is_quote_at(text, inside + 1) {
-        Some(token(Kind::Text, inside + 2))
-    } else {
-        None
-    }
-}
-
-fn is_quote_at(text: &[u8], at: usize) -> bool
-    ensures { IsTrue result ↔ (slice_get text.now at ≡ Some quote) }
-{
-    text.get(at) == Some(&b'"')
-}
-
-/// How many bytes at the front are inside the quotes.
-fn quoted_length(text: &[u8]) -> usize
-    ensures { result ≡ prefix_len is_inside_quotes text.now }
-{
-    text.iter()
-        .take_while(|byte| is_inside_quotes(**byte))
+    characters
+        .iter()
+        .take_while(|character| character.is_ascii_digit())
         .count()
 }
 
-fn is_inside_quotes(byte: u8) -> bool
-    ensures { result ≡ is_inside_quotes byte }
+/// The quoted text at the front.
+#[tactic(auto, using(crate::proofs::Quotes::quoted_front, crate::proofs::Quotes::no_quoted))]
+fn quoted(characters: &[char]) -> Option<Piece>
+    requires { BeginsWith (λ c. c == quote) characters.now }
+    ensures { FindsPiece characters.now result }
 {
-    byte != b'"' && byte != b'\n'
+    match quoted_length(&characters[1..]) {
+        Some(length) => Some(token(Kind::Text, 1 + length)),
+        None => None,
+    }
 }
 
 /// The mark at the front, of two characters where there is one.
 #[tactic(auto, using(crate::proofs::Fronts::long_front, crate::proofs::Fronts::short_front, crate::proofs::Fronts::no_mark))]
-fn mark(text: &[u8]) -> Option<Piece>
-    requires form { IsOfForm text.now }
-    requires other { BeginsWith begins_mark text.now }
-    ensures { FindsPiece text.now result }
+fn mark(characters: &[char]) -> Option<Piece>
+    requires other { BeginsWith begins_other characters.now }
+    requires no_word { BeginsWith (λ c. not (begins_name c)) characters.now }
+    ensures { FindsPiece characters.now result }
 {
-    match long_mark(text) {
+    match long_mark(characters) {
         Some(mark) => Some(token(Kind::Mark(mark), 2)),
-        None => match short_mark(text[0]) {
+        None => match short_mark(characters[0]) {
             Some(mark) => Some(token(Kind::Mark(mark), 1)),
             None => None,
         },
     }
 }
 
-fn long_mark(text: &[u8]) -> Option<Mark>
-    ensures { FindsLong text.now result }
+fn long_mark(characters: &[char]) -> Option<Mark>
+    ensures { FindsLong characters.now result }
 {
-    mark_pair(*text.first()?, *text.get(1)?)
+    mark_pair(*characters.first()?, *characters.get(1)?)
 }
 
-fn mark_pair(first: u8, second: u8) -> Option<Mark>
+fn mark_pair(first: char, second: char) -> Option<Mark>
     ensures { FindsWritten mark_text (first ∷ second ∷ []) result }
 {
     match (first, second) {
-        (b'=', b'=') => Some(Mark::Same),
-        (b'!', b'=') => Some(Mark::Differ),
-        (b'&', b'&') => Some(Mark::And),
-        (b'|', b'|') => Some(Mark::Or),
+        ('=', '=') => Some(Mark::Same),
+        ('!', '=') => Some(Mark::Differ),
+        ('&', '&') => Some(Mark::And),
+        ('|', '|') => Some(Mark::Or),
         _ => None,
     }
 }
 
-fn short_mark(first: u8) -> Option<Mark>
+fn short_mark(first: char) -> Option<Mark>
     ensures { FindsWritten mark_text (first ∷ []) result }
 {
     match first {
-        b'{' => Some(Mark::Begin),
-        b'}' => Some(Mark::End),
-        b'(' => Some(Mark::Open),
-        b')' => Some(Mark::Close),
-        b';' => Some(Mark::Semicolon),
-        b',' => Some(Mark::Comma),
-        b'.' => Some(Mark::Dot),
-        b'=' => Some(Mark::Assign),
-        b'?' => Some(Mark::Choice),
+        '{' => Some(Mark::Begin),
+        '}' => Some(Mark::End),
+        '(' => Some(Mark::Open),
+        ')' => Some(Mark::Close),
+        ';' => Some(Mark::Semicolon),
+        ',' => Some(Mark::Comma),
+        '.' => Some(Mark::Dot),
+        '=' => Some(Mark::Assign),
+        '?' => Some(Mark::Choice),
         _ => None,
     }
 }

@@ -1,45 +1,29 @@
-ghost use Rattle.std.specs.Prelude.{◌≡◌, ◌+◌, ◌^◌, ◌<◌, ◌≤◌, ◌↔◌, List, ℕ, [], ◌∷◌, ◌++◌, length, take, drop, IsTrue, IfOk, IfErr, OnOk, All};
+//! Reads a text from its front to its end.
+ghost use Rattle.std.specs.Prelude.{◌≡◌, ◌+◌, ◌^◌, ◌<◌, ◌≤◌, ◌++◌, length, take, drop, chars, encode_utf8_all, IsUtf8, IfOk, IfErr, OnOk, All};
 ghost use Rattle.easl_model.specs.Tokens.{place_after, IsPart, OneListOfTokens};
-ghost use Rattle.cv_lex.specs.Form.{IsPlain, IsOfForm, Refuses, Answers};
-ghost use Rattle.cv_lex.specs.Reading.{NoPiece, IsSpot, token_from, Grows};
+ghost use Rattle.cv_lex.specs.Form.{Answers, OneAnswer};
+ghost use Rattle.cv_lex.specs.Reading.{IsSpot, token_from, Grows, RefusesStep, CutAnswers, RefusesBytes};
 
 use crate::fault::TextFault;
 use crate::piece::first_piece;
+use crate::spot::{START, Spot, behind, place_behind};
 use easl_model::{Kind, Place, Token, Tokens};
 use sqlite_items::Items;
 use std::alloc::{AllocError, Global};
-
-/// Where the reading stands: the next byte, and its place.
-#[derive(Clone, Copy, Debug, PartialEq, Eq)]
-struct Spot {
-    at: usize,
-    place: Place,
-}
+use std::str;
 
 /// The tokens of the text, and the place of its end.
 ///
-/// NotBuilt comes where the text has a byte above 127, a `/` or a `\`, or where at some place neither a token
-/// nor white space begins. Memory comes where none is found.
+/// NotUtf8 comes where the bytes are no UTF-8, else BadToken where at some place neither a token nor a gap begins, as
+/// at a quoted text or a comment that nothing ends. Memory comes where none is found.
+#[tactic(auto, using(crate::proofs::Along::answers, crate::proofs::Along::answers_parts, crate::proofs::Along::answers_bytes, crate::proofs::Along::no_bytes))]
 pub fn tokens(alloc: Global, text: &[u8]) -> Result<Tokens, TextFault>
     requires { length text.now ≤ 67108864 }
     ensures answer { Answers text.now result }
     ensures parts { IfOk result (λ x. All (IsPart text.now) x.list) }
 {
-    if !is_of_form(text) {
-        return Err(TextFault::NotBuilt);
-    }
-    let mut list = Items::new(alloc);
-    let mut spot = Spot {
-        at: 0,
-        place: Place { line: 1, col: 1 },
-    };
-    while spot.at < text.len() {
-        spot = step(text, spot, &mut list)?;
-    }
-    Ok(Tokens {
-        list,
-        end: spot.place,
-    })
+    let characters = decoded(alloc, text)?;
+    cut(alloc, &characters, text)
 }
 
 /// A text has at most one list of tokens.
@@ -48,36 +32,97 @@ pub fn one_list_of_tokens()
     ensures { OneListOfTokens }
 {}
 
-/// Whether the text has no comment, no escape and no character past ASCII.
-fn is_of_form(text: &[u8]) -> bool
-    ensures { IsTrue result ↔ IsOfForm text.now }
+/// A text has one answer, want of memory aside.
+#[tactic(auto, using(crate::proofs::Single::one_answer))]
+pub fn one_answer()
+    ensures { OneAnswer }
+{}
+
+/// The characters of the text.
+fn decoded(alloc: Global, text: &[u8]) -> Result<Vec<char>, TextFault>
+    requires { length text.now ≤ 67108864 }
+    ensures text { IfOk result (λ v. IsUtf8 text.now × (v.items ≡ chars text.now)) }
+    ensures refused { IfErr result (RefusesBytes text.now) }
 {
-    text.iter().all(|byte| is_plain(*byte))
+    match str::from_utf8(text) {
+        Ok(text) => Ok(characters_of(alloc, text)?),
+        Err(fault) => {
+            let end = end_place(alloc, &text[..fault.valid_up_to()])?;
+            Err(TextFault::NotUtf8(end))
+        }
+    }
 }
 
-fn is_plain(byte: u8) -> bool
-    ensures { IsTrue result ↔ IsPlain byte }
+/// The place of the end of the text.
+fn end_place(alloc: Global, text: &[u8]) -> Result<Place, AllocError>
+    requires short { length text.now ≤ 67108864 }
+    requires utf8 { IsUtf8 text.now }
+    ensures { IfOk result (λ p. p ≡ place_after (chars text.now)) }
 {
-    byte < 128 && byte != b'/' && byte != b'\\'
+    let characters = characters_of(alloc, as_text(text))?;
+    Ok(place_behind(&characters, START))
+}
+
+/// The text with these bytes.
+fn as_text(bytes: &[u8]) -> &str
+    requires { IsUtf8 bytes.now }
+    ensures { result.now ≡ bytes.now }
+{
+    match str::from_utf8(bytes) {
+        Ok(text) => text,
+        Err(_) => "",
+    }
+}
+
+fn characters_of(alloc: Global, text: &str) -> Result<Vec<char>, AllocError>
+    ensures { IfOk result (λ v. v.items ≡ chars text.now) }
+{
+    text.chars().collect(alloc)
+}
+
+/// The tokens of the characters, which have these bytes.
+fn cut(alloc: Global, characters: &[char], bytes: &[u8]) -> Result<Tokens, TextFault>
+    requires short { length bytes.now ≤ 67108864 }
+    requires bytes { bytes.now ≡ encode_utf8_all characters.now }
+    ensures { CutAnswers characters.now result }
+{
+    let mut list = Items::new(alloc);
+    let mut spot = Spot {
+        at: 0,
+        offset: 0,
+        place: START,
+    };
+    while spot.at < characters.len() {
+        spot = step(characters, bytes, spot, &mut list)?;
+    }
+    Ok(Tokens {
+        list,
+        end: spot.place,
+    })
 }
 
 /// Reads the piece at the spot, adds it to the list if it is a token, and gives the spot behind it.
-fn step(text: &[u8], spot: Spot, list: &mut Items<Token>) -> Result<Spot, TextFault>
-    requires short { length text.now ≤ 67108864 }
-    requires form { IsOfForm text.now }
-    requires spot { IsSpot text.now spot }
-    requires more { spot.at < length text.now }
+fn step(
+    characters: &[char],
+    bytes: &[u8],
+    spot: Spot,
+    list: &mut Items<Token>,
+) -> Result<Spot, TextFault>
+    requires short { length bytes.now ≤ 67108864 }
+    requires bytes { bytes.now ≡ encode_utf8_all characters.now }
+    requires spot { IsSpot characters.now spot }
+    requires more { spot.at < length characters.now }
     ensures later { IfOk result (λ next. spot.at < next.at) }
-    ensures spot { IfOk result (IsSpot text.now) }
-    ensures found { IfOk result (λ next. Grows text.now spot.at next.at list.old list.new) }
-    ensures refused { IfErr result (λ e. Refuses e (NoPiece (drop spot.at text.now))) }
+    ensures spot { IfOk result (IsSpot characters.now) }
+    ensures found { IfOk result (λ next. Grows characters.now spot.at next.at list.old list.new) }
+    ensures refused { IfErr result (λ e. RefusesStep e (drop spot.at characters.now) spot.place) }
 {
-    let rest = &text[spot.at..];
-    let Some(piece) = first_piece(rest) else {
-        return Err(TextFault::NotBuilt);
+    let rest = &characters[spot.at..];
+    let Some(piece) = first_piece(rest, &bytes[spot.offset..]) else {
+        return Err(TextFault::BadToken(spot.place));
     };
     let next = behind(rest, piece.length, spot);
-    keep(list, piece.kind, spot, next.at)?;
+    keep(list, piece.kind, spot, next.offset)?;
     Ok(next)
 }
 
@@ -88,7 +133,7 @@ fn keep(
     spot: Spot,
     end: usize,
 ) -> Result<(), AllocError>
-    requires start { spot.at < 2 ^ 32 }
+    requires start { spot.offset < 2 ^ 32 }
     requires end { end < 2 ^ 32 }
     ensures { OnOk result (list.new ≡ list.old ++ token_from kind spot end) }
 {
@@ -96,61 +141,9 @@ fn keep(
         None => Ok(()),
         Some(kind) => list.push(Token {
             kind,
-            start: spot.at as u32,
+            start: spot.offset as u32,
             end: end as u32,
             place: spot.place,
         }),
-    }
-}
-
-/// The spot behind the first `size` bytes of the rest, which begins at the spot.
-fn behind(rest: &[u8], size: usize, spot: Spot) -> Spot
-    requires size { size ≤ length rest.now }
-    requires short { spot.at + length rest.now ≤ 67108864 }
-    requires line { spot.place.line ≤ spot.at + 1 }
-    requires col { spot.place.col ≤ spot.at + 1 }
-    ensures at { result.at ≡ spot.at + size }
-    ensures place { (before : List ℕ) → spot.place ≡ place_after before
-        → result.place ≡ place_after (before ++ take size rest.now) }
-{
-    Spot {
-        at: spot.at + size,
-        place: place_behind(&rest[..size], spot.place),
-    }
-}
-
-/// The place behind the characters, the first of which stands at the place.
-fn place_behind(characters: &[u8], place: Place) -> Place
-    requires line { place.line + length characters.now < 2 ^ 32 }
-    requires col { place.col + length characters.now < 2 ^ 32 }
-    ensures { (before : List ℕ) → place ≡ place_after before
-        → result ≡ place_after (before ++ characters.now) }
-{
-    let mut place = place;
-    for character in characters {
-        place = next_place(*character, place);
-    }
-    place
-}
-
-#[tactic(auto, using(easl_model::proofs::Places::place_line_end, easl_model::proofs::Places::place_other))]
-fn next_place(character: u8, place: Place) -> Place
-    requires line { place.line + 1 < 2 ^ 32 }
-    requires col { place.col + 1 < 2 ^ 32 }
-    ensures line { result.line ≤ place.line + 1 }
-    ensures col { result.col ≤ place.col + 1 }
-    ensures place { (before : List ℕ) → place ≡ place_after before
-        → result ≡ place_after (before ++ character ∷ []) }
-{
-    if character == b'\n' {
-        Place {
-            line: place.line + 1,
-            col: 1,
-        }
-    } else {
-        Place {
-            line: place.line,
-            col: place.col + 1,
-        }
     }
 }

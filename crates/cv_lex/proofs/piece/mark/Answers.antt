@@ -5,5 +5,5 @@ use Rattle.cv_lex.proofs.piece.mark.Goals as goal
 
 pub returns-in-Some-short_mark : goal.returns-in-Some-short_mark
 returns-in-Some-short_mark c =
-    subst (IsFront c.args.text.now) (sym c.token-in-Some-short_mark.ensures)
-    (short_front c.args.text.now c.in-Some-short_mark.mark c.requires.other c.in-None.ensures c.in-Some-short_mark.ensures)
+    subst (IsFront c.args.characters.now) (sym c.token-in-Some-short_mark.ensures)
+    (short_front c.args.characters.now c.in-Some-short_mark.mark c.index-characters-0.result c.requires.other c.in-None.ensures c.index-characters-0.is c.in-Some-short_mark.ensures)
