@@ -1,9 +1,7 @@
 -- Reading a client is spelling it, and a text has one answer.
 use Rattle.std.proofs.Common.{ℕ, suc, List, length, Ok, Err, Result, arith}
-use Rattle.std.specs.Prelude.{IsUtf8}
 use Rattle.cv_lex.specs.Form as lex
 use Rattle.cv_lex.specs.declared.fault.TextFault.{TextFault}
-use Rattle.cv_lex.specs.declared.fault.TextFault.TheVariants.{NotBuilt}
 use Rattle.easl_model.specs.Brackets.{Shallow}
 use Rattle.easl_model.specs.declared.place.Place.{Place}
 use Rattle.easl_model.specs.declared.token.Token.{Token}
@@ -35,9 +33,6 @@ too_deep = answered.too_deep IsClient
 -- from the tokens to the text
 pub no_tokens : (text : List ℕ) (e : TextFault) → lex.Answers text (Err e) → Answers IsClient text (Err e)
 no_tokens = answered.no_tokens IsClient
-
-pub no_text : (text : List ℕ) (x : Tokens) → lex.Answers text (Ok x) → (IsUtf8 text → ⊥) → Answers IsClient text (Err NotBuilt)
-no_text = answered.no_text IsClient
 
 pub tree_answers : (text : List ℕ) (x : Tokens) (c : Client) → lex.Answers text (Ok x) → FindsTree IsClient text x.end x.list (Ok c) → Answers IsClient text (Ok c)
 tree_answers = answered.tree_answers IsClient

@@ -19,19 +19,17 @@ use std::str;
 /// that may stand open.
 const MOST_BODIES: u32 = 64;
 
-/// Reads the client that the whole text spells. The faults come in this order: `NotBuilt` where the bytes are no
-/// tokens of the form that is built so far, `Limit` of nesting at the bracket that makes a 65th open one, `Syntax`
-/// where the tokens before the place begin a client and with the next one begin none, or at the end of the text.
-/// `Memory` comes where none is found.
-#[tactic(auto, using(crate::proofs::Theorems::no_tokens, crate::proofs::Theorems::no_text, crate::proofs::Theorems::tree_answers, crate::proofs::Theorems::fault_answers))]
+/// Reads the client that the whole text spells. The faults come in this order: `NotUtf8` where the longest front of the
+/// bytes that is UTF-8 ends, if they are none, `BadToken` where neither a gap nor a token begins, `Limit` of nesting at
+/// the bracket that makes a 65th open one, `Syntax` where the tokens before the place begin a client and with the next
+/// one begin none, or at the end of the text. `Memory` comes where none is found.
+#[tactic(auto, using(crate::proofs::Theorems::no_tokens, crate::proofs::Theorems::tree_answers, crate::proofs::Theorems::fault_answers))]
 pub fn read_client(alloc: Global, text: &[u8]) -> Result<Client, TextFault>
     requires { length text.now ≤ 1048576 }
     ensures { Answers IsClient text.now result }
 {
     let tokens = tokens(alloc, text)?;
-    let Ok(text) = str::from_utf8(text) else {
-        return Err(TextFault::NotBuilt);
-    };
+    let text = str::from_utf8(text).unwrap_or("");
     let source = Source { alloc, text };
     match client(source, tokens.end, tokens.list.as_slice()) {
         Ok(client) => Ok(client),

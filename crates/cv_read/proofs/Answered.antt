@@ -1,10 +1,9 @@
 -- Reading a text is spelling its tree, and a text has one answer.
 use Rattle.std.proofs.Common.{◌≡◌, ◌≢◌, ℕ, zero, suc, ◌+◌, ◌<◌, ◌≤◌, Bool, List, [], ◌∷◌, length, Ok, Err, Result, refl, sym, ◌∙◌, ap, subst, arith}
-use Rattle.std.specs.Prelude.{IsUtf8}
 use Rattle.cv_lex.specs.Form as lex
 use Rattle.cv_lex.specs.declared.fault.TextFault.{TextFault}
-use Rattle.cv_lex.specs.declared.fault.TextFault.TheVariants.{NotUtf8, BadToken, Limit, NotBuilt, Syntax, Memory}
-use Rattle.cv_lex.specs.declared.fault.Which.TheVariants.{Nesting}
+use Rattle.cv_lex.specs.declared.fault.TextFault.TheVariants.{NotUtf8, BadToken, Limit, Syntax, Memory}
+use Rattle.easl_model.specs.declared.fault.Which.TheVariants.{Nesting}
 use Rattle.easl_model.specs.Brackets.{turned, StaysShallow, Shallow}
 use Rattle.easl_model.specs.declared.place.Place.{Place}
 use Rattle.easl_model.specs.declared.token.Kind.{Kind}
@@ -12,8 +11,10 @@ use Rattle.easl_model.specs.declared.token.Kind.TheVariants as kind
 use Rattle.easl_model.specs.declared.token.Mark.TheVariants as mark
 use Rattle.easl_model.specs.declared.token.Token.{Token}
 use Rattle.easl_model.specs.declared.token.Tokens.{Tokens}
-use Rattle.easl_model.proofs.Cuts.{one_list}
-use Rattle.cv_read.specs.Answers.{Language, AreTaken, IsTooDeepAt, IsFirstWrongAt, Answers, OneAnswer, FindsTree}
+use Rattle.easl_model.specs.Tokens.{AreTokens}
+use Rattle.easl_model.proofs.Cuts.{one_list, bad_has_none, not_utf8_has_none}
+use Rattle.cv_lex.proofs.Single as single
+use Rattle.cv_read.specs.Answers.{Language, IsTooDeepAt, IsFirstWrongAt, Answers, OneAnswer, FindsTree}
 use Rattle.cv_read.specs.Faults.{placed, Nests}
 use Rattle.cv_read.specs.Read.{Read, Got, Stuck, Deep, ◌>>=◌, GivesWhole, done_at, whole_at}
 use Rattle.cv_read.specs.declared.fault.ReadFault.{ReadFault}
@@ -42,8 +43,8 @@ pub one_spelling : {A : Type 0} (r : List Token → Read A) (S : Lang A) (G : Ki
 one_spelling r S G d ts law bound h x y = spells_one r S G law ts x y (λ e. bound ts 0 (length ts) e (omega arith) (omega arith) (shallow_long ts 0 (length ts) (omega arith)))
 
 -- from the tokens to the text
-moved : (text : List ℕ) (x y : Tokens) (P : Tokens → Type 0) → AreTaken text x → AreTaken text y → P y → P x
-moved text x y P a b = subst P (sym (one_list text x y a.tokens b.tokens))
+moved : (text : List ℕ) (x y : Tokens) (P : Tokens → Type 0) → AreTokens text x → AreTokens text y → P y → P x
+moved text x y P a b = subst P (sym (one_list text x y a b))
 
 shallow_or_deep : (x : Tokens) (place : Place) → Shallow x.list → IsTooDeepAt x place → ⊥
 shallow_or_deep x place s d = shallow_not_deep d.0 d.1 d.2 (subst Shallow d.3 s) d.4.deep
@@ -53,9 +54,6 @@ one_deep_place x p q a b =
     let e : length (a.1 ∷ a.2) ≡ length (b.1 ∷ b.2) = one_deep x.list (length (a.1 ∷ a.2)) (length (b.1 ∷ b.2)) (a.0, a.1, a.2, a.3, refl, a.4) (b.0, b.1, b.2, b.3, refl, b.4) in
     a.5 ∙ sym (place_left x a.0 (a.1 ∷ a.2) (length (a.1 ∷ a.2)) a.3 refl) ∙ place_left x b.0 (b.1 ∷ b.2) (length (a.1 ∷ a.2)) b.3 (sym e) ∙ sym b.5
 
-taken : (text : List ℕ) (x : Tokens) → lex.Answers text (Ok x) → AreTaken text x
-taken text x h = record { form = h.0; tokens = h.1 }
-
 module _ {A : Type 0} (S : Language A) where
   pub too_deep : (text : List ℕ) (end : Place) (ts : List Token) (e : ReadFault) → Nests ts (Err e) → FindsTree S text end ts (Err e)
   too_deep text end ts (read.Nesting left) h = h
@@ -63,23 +61,18 @@ module _ {A : Type 0} (S : Language A) where
   too_deep text end ts read.Memory h = tt
 
   pub no_tokens : (text : List ℕ) (e : TextFault) → lex.Answers text (Err e) → Answers S text (Err e)
-  no_tokens text NotBuilt h = λ x taken. h taken.form x taken.tokens
+  no_tokens text (NotUtf8 p) h = h
+  no_tokens text (BadToken p) h = h
   no_tokens text Memory h = tt
-  no_tokens text (NotUtf8 p) h = absurd h
-  no_tokens text (BadToken p) h = absurd h
   no_tokens text (Syntax p) h = absurd h
   no_tokens text (Limit w p) h = absurd h
 
-  -- what has tokens is a text
-  pub no_text : (text : List ℕ) (x : Tokens) → lex.Answers text (Ok x) → (IsUtf8 text → ⊥) → Answers S text (Err NotBuilt)
-  no_text text x h n = absurd (n h.1.utf8)
-
   pub tree_answers : (text : List ℕ) (x : Tokens) (tree : A) → lex.Answers text (Ok x) → FindsTree S text x.end x.list (Ok tree) → Answers S text (Ok tree)
-  tree_answers text x tree h f = (x, taken text x h, f.0, f.1)
+  tree_answers text x tree h f = (x, h, f.0, f.1)
 
   pub fault_answers : (text : List ℕ) (x : Tokens) (e : ReadFault) → lex.Answers text (Ok x) → FindsTree S text x.end x.list (Err e) → Answers S text (Err (placed x e))
-  fault_answers text x (read.Nesting left) h f = (x, taken text x h, (f.0, f.1, f.2, f.3, f.5, place_left x f.0 (f.1 ∷ f.2) left f.3 f.4))
-  fault_answers text x (read.Syntax left) h f = (x, taken text x h, f.0, (f.1.0, f.1.1, f.1.2, f.1.4, place_left x f.1.0 f.1.1 left f.1.2 f.1.3))
+  fault_answers text x (read.Nesting left) h f = (x, h, (f.0, f.1, f.2, f.3, f.5, place_left x f.0 (f.1 ∷ f.2) left f.3 f.4))
+  fault_answers text x (read.Syntax left) h f = (x, h, f.0, (f.1.0, f.1.1, f.1.2, f.1.4, place_left x f.1.0 f.1.1 left f.1.2 f.1.3))
   fault_answers text x read.Memory h f = tt
 
 -- over a reader of the language that goes too deep only where 65 brackets stand unclosed
@@ -114,27 +107,37 @@ module _ {A : Type 0} (S : Language A) (r : List ℕ → Place → List Token �
   tree_or_fault : (text : List ℕ) (u : A) (e : TextFault) → e ≢ Memory → Answers S text (Ok u) → Answers S text (Err e) → ⊥
   tree_or_fault text u (Limit Nesting place) n a b = shallow_or_deep a.0 place a.2 (moved text a.0 b.0 (λ z. IsTooDeepAt z place) a.1 b.1 b.2)
   tree_or_fault text u (Syntax place) n a b = spelled_or_wrong text a.0 u place a.3 (moved text a.0 b.0 (λ z. IsFirstWrongAt S text z place) a.1 b.1 b.3)
-  tree_or_fault text u NotBuilt n a b = b a.0 a.1
+  tree_or_fault text u (NotUtf8 place) n a b = not_utf8_has_none text place a.0 b a.1
+  tree_or_fault text u (BadToken place) n a b = bad_has_none text place a.0 b a.1
   tree_or_fault text u Memory n a b = n refl
   tree_or_fault text u e n a b = b
 
   one_fault : (text : List ℕ) (e f : TextFault) → e ≢ Memory → f ≢ Memory → Answers S text (Err e) → Answers S text (Err f) → e ≡ f
   one_fault text (Limit Nesting p) (Limit Nesting q) n m a b = ap (Limit Nesting) (one_deep_place a.0 p q a.2 (moved text a.0 b.0 (λ z. IsTooDeepAt z q) a.1 b.1 b.2))
   one_fault text (Limit Nesting p) (Syntax q) n m a b = absurd (shallow_or_deep b.0 p b.2 (moved text b.0 a.0 (λ z. IsTooDeepAt z p) b.1 a.1 a.2))
-  one_fault text (Limit Nesting p) NotBuilt n m a b = absurd (b a.0 a.1)
+  one_fault text (Limit Nesting p) (NotUtf8 q) n m a b = absurd (not_utf8_has_none text q a.0 b a.1)
+  one_fault text (Limit Nesting p) (BadToken q) n m a b = absurd (bad_has_none text q a.0 b a.1)
   one_fault text (Syntax p) (Limit Nesting q) n m a b = absurd (shallow_or_deep a.0 q a.2 (moved text a.0 b.0 (λ z. IsTooDeepAt z q) a.1 b.1 b.2))
   one_fault text (Syntax p) (Syntax q) n m a b = ap Syntax (one_wrong_place text a.0 p q a.3 (moved text a.0 b.0 (λ z. IsFirstWrongAt S text z q) a.1 b.1 b.3))
-  one_fault text (Syntax p) NotBuilt n m a b = absurd (b a.0 a.1)
-  one_fault text NotBuilt (Limit Nesting q) n m a b = absurd (a b.0 b.1)
-  one_fault text NotBuilt (Syntax q) n m a b = absurd (a b.0 b.1)
-  one_fault text NotBuilt NotBuilt n m a b = refl
+  one_fault text (Syntax p) (NotUtf8 q) n m a b = absurd (not_utf8_has_none text q a.0 b a.1)
+  one_fault text (Syntax p) (BadToken q) n m a b = absurd (bad_has_none text q a.0 b a.1)
+  one_fault text (NotUtf8 p) (Limit Nesting q) n m a b = absurd (not_utf8_has_none text p b.0 a b.1)
+  one_fault text (NotUtf8 p) (Syntax q) n m a b = absurd (not_utf8_has_none text p b.0 a b.1)
+  one_fault text (BadToken p) (Limit Nesting q) n m a b = absurd (bad_has_none text p b.0 a b.1)
+  one_fault text (BadToken p) (Syntax q) n m a b = absurd (bad_has_none text p b.0 a b.1)
+  one_fault text (NotUtf8 p) (NotUtf8 q) n m a b = single.one_fault text (NotUtf8 p) (NotUtf8 q) n m a b
+  one_fault text (NotUtf8 p) (BadToken q) n m a b = single.one_fault text (NotUtf8 p) (BadToken q) n m a b
+  one_fault text (BadToken p) (NotUtf8 q) n m a b = single.one_fault text (BadToken p) (NotUtf8 q) n m a b
+  one_fault text (BadToken p) (BadToken q) n m a b = single.one_fault text (BadToken p) (BadToken q) n m a b
   one_fault text Memory f n m a b = absurd (n refl)
   one_fault text (Limit Nesting p) Memory n m a b = absurd (m refl)
   one_fault text (Syntax p) Memory n m a b = absurd (m refl)
-  one_fault text NotBuilt Memory n m a b = absurd (m refl)
+  one_fault text (NotUtf8 p) Memory n m a b = absurd (m refl)
+  one_fault text (BadToken p) Memory n m a b = absurd (m refl)
   one_fault text (Limit Nesting p) f n m a b = absurd b
   one_fault text (Syntax p) f n m a b = absurd b
-  one_fault text NotBuilt f n m a b = absurd b
+  one_fault text (NotUtf8 p) f n m a b = absurd b
+  one_fault text (BadToken p) f n m a b = absurd b
   one_fault text e f n m a b = absurd a
 
   one_tree : (text : List ℕ) (x : Tokens) (u v : A) → Shallow x.list → S text x.end x.list u → S text x.end x.list v → u ≡ v

@@ -2,6 +2,7 @@
 use Rattle.std.proofs.Common.{◌≡◌, ℕ, suc, Bool, List, [], ◌∷◌, ◌++◌, refl, sym, ◌∙◌, ap, subst, inl, inr}
 use Rattle.easl_model.specs.Grammar.{opaque_key, IsListed, IsType, opaque_type, class_type, IsParam, param, IsParams, params}
 use Rattle.easl_model.specs.Lexemes.{word_of, IsKey}
+use Rattle.easl_model.specs.declared.place.Place.{Place}
 use Rattle.easl_model.specs.declared.token.Key.TheVariants as key
 use Rattle.easl_model.specs.declared.token.Kind.{Kind}
 use Rattle.easl_model.specs.declared.token.Kind.TheVariants as kind
@@ -14,12 +15,12 @@ use Rattle.easl_model.specs.declared.tree.Sort.{Sort}
 use Rattle.easl_model.specs.declared.tree.Sort.TheVariants as sort
 use Rattle.easl_model.specs.declared.tree.Word.{Word}
 use Rattle.cv_read.specs.Read.{is_mark, is_name}
-use Rattle.cv_read.specs.Types.{is_opaque, opaque_in, opaque_of, opaque_at, type_at, type_starts, param_at, params_at}
-use Rattle.cv_read.proofs.Laws.{Lang, Is, none, Front, Apart, Then, Or, End, no_none, avoids_none, front_append}
+use Rattle.cv_read.specs.Types.{is_opaque, opaque_in, opaque_of, placed_opaque, opaque_at, type_at, type_starts, param_behind, param_at, params_at}
+use Rattle.cv_read.proofs.Laws.{Lang, Is, none, Front, Apart, Or, End, no_none}
 use Rattle.cv_read.proofs.Levels.{Flat, name_flat}
 use Rattle.cv_read.proofs.Repeats.{or_left, or_right}
 use Rattle.cv_read.proofs.Tested.{mark_to, mark_from, name_to, name_from}
-use Rattle.cv_read.proofs.Within.{ReadsWithin, got_within, respell_within, both_within, led_within, two_ways_within, parens_within, listed_within}
+use Rattle.cv_read.proofs.Within.{ReadsWithin, got_within, respell_within, led_within, two_ways_within, parens_within, listed_within}
 use Rattle.cv_read.proofs.Words.{Led, Parens, led_starts}
 
 name_no_opaque : Apart is_name is_opaque
@@ -34,7 +35,7 @@ opaque_kind (kind.Key key.Boolean) h = refl
 opaque_kind (kind.Key key.String) h = refl
 opaque_kind k h = absurd h
 
-opaque_to : (t : Token) → Is (is_opaque t.kind) → IsKey (opaque_key (opaque_of t)) t
+pub opaque_to : (t : Token) → Is (is_opaque t.kind) → IsKey (opaque_key (opaque_of t)) t
 opaque_to t h = record { kind = opaque_kind t.kind h }
 
 opaque_self : (o : Opaque) → Is (is_opaque (kind.Key (opaque_key o)))
@@ -55,7 +56,7 @@ opaque_one opaque.String = refl
 pub opaque_same : (o : Opaque) (t : Token) → IsKey (opaque_key o) t → o ≡ opaque_of t
 opaque_same o t h = opaque_one o ∙ ap opaque_in (sym h.kind)
 
-opaque_flat : Flat is_opaque
+pub opaque_flat : Flat is_opaque
 opaque_flat (kind.Key k) h b = refl
 opaque_flat kind.Name h b = absurd h
 opaque_flat kind.Number h b = absurd h
@@ -96,30 +97,57 @@ module _ (text : List ℕ) where
   type_begins w x (opaque_type {t = t} {o = o} h) = or_right (is_name t.kind) (is_opaque t.kind) (opaque_from o t h)
   type_begins w x (class_type {t = t} {w = n} h) = or_left (is_name t.kind) (is_opaque t.kind) (name_from text t n h)
 
-  abbrev ParamLang : Lang Param
-  ParamLang = Then (IsType text) (λ x. Led is_name (word_of text) (λ n. End (record { sort = x; name = n })))
+  -- a parameter behind its type
+  abbrev BehindType : Place → Sort → Lang Param
+  BehindType at x = Led is_name (word_of text) (λ n. End (record { place = at; sort = x; name = n }))
 
-  param_to : (w : List Token) (x : Param) → ParamLang w x → IsParam text w x
-  param_to w x h =
-      let t = h.4.0 in
-      let n = word_of text t in
-      let e : w ≡ h.1 ++ t ∷ [] = h.5 ∙ ap (λ u. h.1 ++ u) (h.4.4 ∙ ap (λ u. t ∷ u) h.4.3.0) in
-      subst (IsParam text w) (sym h.4.3.1) (subst (λ m. IsParam text m (record { sort = h.0; name = n })) (sym e) (param h.3 (name_to text t n h.4.2 refl)))
+  abbrev OpaqueParam : Lang Param
+  OpaqueParam = Led is_opaque placed_opaque (λ o. BehindType o.0 (sort.Opaque o.1))
 
-  param_from : (w : List Token) (x : Param) → IsParam text w x → ParamLang w x
-  param_from w x (param {name = t} {n = n} {ts = ts} {x = y} h i) =
-      let e : ◌≡◌ {A = Param} (record { sort = y; name = n }) (record { sort = y; name = word_of text t }) = ap (λ (m : Word). record { sort = y; name = m }) i.word in
-      (y, ts, t ∷ [], h, (t, [], name_from text t n i, (refl, e), refl), refl)
+  abbrev ClassParam : Lang Param
+  ClassParam = Led is_name (word_of text) (λ c. BehindType c.place (sort.Class c))
+
+  behind_to : (t : Token) (s : Sort) (u w : List Token) (x : Param) → IsType text (t ∷ []) s → BehindType t.place s u x → w ≡ t ∷ u → IsParam text w x
+  behind_to t s u w x i h e =
+      let n = word_of text h.0 in
+      let f : w ≡ t ∷ h.0 ∷ [] = e ∙ ap (λ m. t ∷ m) (h.4 ∙ ap (λ m. h.0 ∷ m) h.3.0) in
+      subst (IsParam text w) (sym h.3.1) (subst (λ m. IsParam text m (record { place = t.place; sort = s; name = n })) (sym f) (param i (name_to text h.0 n h.2 refl)))
+
+  param_to : (w : List Token) (x : Param) → Or OpaqueParam ClassParam w x → IsParam text w x
+  param_to w x (inl h) = behind_to h.0 (sort.Opaque (opaque_of h.0)) h.1 w x (opaque_type (opaque_to h.0 h.2)) h.3 h.4
+  param_to w x (inr h) = behind_to h.0 (sort.Class (word_of text h.0)) h.1 w x (class_type (name_to text h.0 (word_of text h.0) h.2 refl)) h.3 h.4
+
+  param_from : (w : List Token) (x : Param) → IsParam text w x → Or OpaqueParam ClassParam w x
+  param_from w x (param {t = t} {name = name} {n = n} {x = s} h i) = by s h
+    where
+      -- the name behind any type
+      behind : (s : Sort) → BehindType t.place s (name ∷ []) (record { place = t.place; sort = s; name = n })
+      behind s =
+          let e : ◌≡◌ {A = Param} (record { place = t.place; sort = s; name = n }) (record { place = t.place; sort = s; name = word_of text name }) =
+          ap (λ (m : Word). record { place = t.place; sort = s; name = m }) i.word in
+          (name, [], name_from text name n i, (refl, e), refl)
+
+      by : (s : Sort) → IsType text (t ∷ []) s → Or OpaqueParam ClassParam (t ∷ name ∷ []) (record { place = t.place; sort = s; name = n })
+      by s (opaque_type {o = o} k) =
+          let e : sort.Opaque (opaque_of t) ≡ sort.Opaque o = ap sort.Opaque (sym (opaque_same o t k)) in
+          inl (t, name ∷ [], opaque_from o t k, subst (λ (y : Sort). BehindType t.place (sort.Opaque (opaque_of t)) (name ∷ []) (record { place = t.place; sort = y; name = n })) e (behind (sort.Opaque (opaque_of t))), refl)
+      by s (class_type {w = c} k) =
+          let e : sort.Class (word_of text t) ≡ sort.Class c = ap sort.Class (sym k.word) in
+          inr (t, name ∷ [], name_from text t c k, subst (λ (y : Sort). BehindType t.place (sort.Class (word_of text t)) (name ∷ []) (record { place = t.place; sort = y; name = n })) e (behind (sort.Class (word_of text t))), refl)
+
+  behind_within : (at : Place) (s : Sort) (d : ℕ) → ReadsWithin (param_behind text at s) (BehindType at s) none d
+  behind_within at s d = led_within is_name (word_of text) kind.Name tt name_flat (λ n. got_within (record { place = at; sort = s; name = n }) none d)
 
   param_within : (d : ℕ) → ReadsWithin (param_at text) (IsParam text) none d
   unfolding param_at
   param_within d = respell_within param_to param_from
-      (both_within (type_within d)
-      (λ x. led_within is_name (word_of text) kind.Name tt name_flat (λ n. got_within (record { sort = x; name = n }) none d))
-      (λ x w k z h a. avoids_none (w ++ k)))
+      (two_ways_within is_opaque is_name (led_starts is_opaque placed_opaque (λ o. BehindType o.0 (sort.Opaque o.1)))
+      (led_starts is_name (word_of text) (λ c. BehindType c.place (sort.Class c))) name_no_opaque
+      (led_within is_opaque placed_opaque (kind.Key key.Int) tt opaque_flat (λ o. behind_within o.0 (sort.Opaque o.1) d))
+      (led_within is_name (word_of text) kind.Name tt name_flat (λ c. behind_within c.place (sort.Class c) d)))
 
   param_begins : (w : List Token) (x : Param) → IsParam text w x → Front type_starts w
-  param_begins w x (param {name = t} {ts = ts} {x = y} h i) = front_append type_starts ts (t ∷ []) (type_begins ts y h)
+  param_begins w x (param {t = t} {name = name} {x = s} h i) = type_begins (t ∷ []) s h
 
   abbrev ParamsLang : Lang (List Param)
   ParamsLang = Parens (IsListed (IsParam text))

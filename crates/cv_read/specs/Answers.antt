@@ -1,13 +1,12 @@
 -- What reading the texts of a language answers. The language says which tokens of a text that ends at a place spell
 -- which tree.
 use Rattle.std.specs.Prelude.{◌≡◌, ◌≢◌, ℕ, List, ◌∷◌, ◌++◌, Result, Ok, Err}
-use Rattle.cv_lex.specs.Form.{IsOfForm}
 use Rattle.cv_lex.specs.declared.fault.TextFault.{TextFault}
-use Rattle.cv_lex.specs.declared.fault.TextFault.TheVariants.{NotBuilt, Limit, Syntax, Memory}
-use Rattle.cv_lex.specs.declared.fault.Which.TheVariants.{Nesting}
+use Rattle.cv_lex.specs.declared.fault.TextFault.TheVariants.{NotUtf8, BadToken, Limit, Syntax, Memory}
+use Rattle.easl_model.specs.declared.fault.Which.TheVariants.{Nesting}
 use Rattle.easl_model.specs.Brackets.{Shallow, IsFirstDeep}
 use Rattle.easl_model.specs.Spelling.{FirstWrong, first_place}
-use Rattle.easl_model.specs.Tokens.{AreTokens}
+use Rattle.easl_model.specs.Tokens.{AreTokens, IsNotUtf8At, IsBadTokenAt}
 use Rattle.easl_model.specs.declared.place.Place.{Place}
 use Rattle.easl_model.specs.declared.token.Token.{Token}
 use Rattle.easl_model.specs.declared.token.Tokens.{Tokens}
@@ -19,11 +18,6 @@ use Rattle.cv_read.specs.declared.fault.ReadFault.TheVariants as read
 abbrev pub Language : Type 0 → Type 1
 Language A = List ℕ → Place → List Token → A → Type 0
 
--- the text has the form that is taken so far, and these are its tokens
-pub record AreTaken (text : List ℕ) (x : Tokens) : Type 0 where
-  pub form : IsOfForm text
-  pub tokens : AreTokens text x
-
 -- at the place stands the first bracket that is a 65th unclosed one
 abbrev pub IsTooDeepAt : Tokens → Place → Type 0
 IsTooDeepAt x place = (before : List Token) × (t : Token) × (after : List Token) × (x.list ≡ before ++ t ∷ after) × IsFirstDeep before t × (place ≡ t.place)
@@ -33,10 +27,11 @@ abbrev pub IsFirstWrongAt : {A : Type 0} → Language A → List ℕ → Tokens 
 IsFirstWrongAt S text x place = (before after : List Token) × (x.list ≡ before ++ after) × FirstWrong (S text x.end) before after × (place ≡ first_place x.end after)
 
 abbrev pub Answers : {A : Type 0} → Language A → List ℕ → Result A TextFault → Type 0
-Answers S text (Ok tree) = (x : Tokens) × AreTaken text x × Shallow x.list × S text x.end x.list tree
-Answers S text (Err (Limit Nesting place)) = (x : Tokens) × AreTaken text x × IsTooDeepAt x place
-Answers S text (Err (Syntax place)) = (x : Tokens) × AreTaken text x × Shallow x.list × IsFirstWrongAt S text x place
-Answers S text (Err NotBuilt) = (x : Tokens) → AreTaken text x → ⊥
+Answers S text (Ok tree) = (x : Tokens) × AreTokens text x × Shallow x.list × S text x.end x.list tree
+Answers S text (Err (Limit Nesting place)) = (x : Tokens) × AreTokens text x × IsTooDeepAt x place
+Answers S text (Err (Syntax place)) = (x : Tokens) × AreTokens text x × Shallow x.list × IsFirstWrongAt S text x place
+Answers S text (Err (NotUtf8 place)) = IsNotUtf8At text place
+Answers S text (Err (BadToken place)) = IsBadTokenAt text place
 Answers S text (Err Memory) = Unit {0}
 Answers S text (Err e) = ⊥
 

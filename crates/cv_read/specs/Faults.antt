@@ -2,7 +2,7 @@
 use Rattle.std.specs.Prelude.{◌≡◌, ℕ, ◌-◌, List, ◌∷◌, ◌++◌, drop, length, Result, Ok, Err}
 use Rattle.cv_lex.specs.declared.fault.TextFault.{TextFault}
 use Rattle.cv_lex.specs.declared.fault.TextFault.TheVariants as text
-use Rattle.cv_lex.specs.declared.fault.Which.TheVariants as which
+use Rattle.easl_model.specs.declared.fault.Which.TheVariants as which
 use Rattle.easl_model.specs.Brackets.{Shallow, IsFirstDeep}
 use Rattle.easl_model.specs.Spelling.{FirstWrong, first_place}
 use Rattle.easl_model.specs.declared.place.Place.{Place}

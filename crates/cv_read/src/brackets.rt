@@ -1,3 +1,4 @@
+//! The brackets that stand open at a token.
 ghost use Rattle.std.specs.Prelude.{◌≡◌, ◌≤◌};
 ghost use Rattle.easl_model.specs.Brackets as brackets;
 ghost use Rattle.cv_read.specs.Faults.{Nests};

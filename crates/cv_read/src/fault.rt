@@ -1,3 +1,4 @@
+//! Why a text does not become a tree.
 ghost use Rattle.std.specs.Prelude.{◌≡◌};
 ghost use Rattle.cv_read.specs.Faults.{placed};
 ghost use Rattle.cv_read.specs.Faults as faults;

@@ -13,4 +13,4 @@ pub use taking::{
     Source, after_key, after_mark, begins_key, begins_literal, begins_mark, begins_name, front,
     is_literal, key, literal, mark, name, next, placed_key, placed_mark, words_of_tokens,
 };
-pub use types::{after_opaque, is_type_start, opaque_sort, params, sort};
+pub use types::{after_opaque, after_placed_opaque, is_type_start, opaque_sort, params, sort};

@@ -1,3 +1,4 @@
+//! Taking one token, where it is the one that must stand there.
 ghost use Rattle.std.specs.Prelude.{◌≡◌, ◌≢◌, ◌+◌, ◌∷◌, ◌<◌, [], ◌&&◌, length, chars, string_bytes, MatchOption, IfOk, IfErr, IfSome, IsTrue, nat_le};
 ghost use Rattle.easl_model.specs.Lexemes.{TokensAreWritten, bytes_of, is_literal, word_of};
 ghost use Rattle.cv_read.specs.Read.{Gives, GivesRest, Finds, FindsRest, FirstIs, begins, is_mark, is_key, is_name, place_of, mark_at, mark_place_at, key_at, name_at, literal_at};

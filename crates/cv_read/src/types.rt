@@ -1,11 +1,11 @@
 //! Types and parameters, which are those of both languages.
 ghost use Rattle.std.specs.Prelude.{◌≡◌, ◌<◌, ◌≤◌, true, false, length, IfOk, IfSome, IsSome, MatchOption};
 ghost use Rattle.cv_read.specs.Read.{Gives, Finds, begins, commas_at, more_at, next_at, listed_at};
-ghost use Rattle.cv_read.specs.Types.{is_opaque, opaque_in, opaque_of, type_starts, opaque_at, type_at, class_type_at, param_at, params_at};
+ghost use Rattle.cv_read.specs.Types.{is_opaque, opaque_in, opaque_of, placed_opaque, type_starts, opaque_at, type_at, class_type_at, param_behind, opaque_param_at, class_param_at, param_at, params_at};
 
 use crate::fault::ReadFault;
 use crate::taking::{Source, after_mark, front, mark, name, next};
-use easl_model::{Key, Kind, Mark, Opaque, Param, Sort, Token};
+use easl_model::{Key, Kind, Mark, Opaque, Param, Place, Sort, Token};
 use sqlite_items::Items;
 
 /// `opaque`
@@ -24,9 +24,20 @@ pub fn after_opaque(tokens: &[Token]) -> Option<(Opaque, &[Token])>
     ensures finds { Finds is_opaque opaque_of tokens.now result }
     ensures shorter { IfSome result (λ x. length x.1.now < length tokens.now) }
 {
+    match after_placed_opaque(tokens) {
+        Some(((_, found), rest)) => Some((found, rest)),
+        None => None,
+    }
+}
+
+/// The same, with the token's place.
+pub fn after_placed_opaque(tokens: &[Token]) -> Option<((Place, Opaque), &[Token])>
+    ensures finds { Finds is_opaque placed_opaque tokens.now result }
+    ensures shorter { IfSome result (λ x. length x.1.now < length tokens.now) }
+{
     match next(tokens) {
         Some((token, rest)) => match opaque(token.kind) {
-            Some(found) => Some((found, rest)),
+            Some(found) => Some(((token.place, found), rest)),
             None => None,
         },
         None => None,
@@ -145,9 +156,36 @@ fn param<'a>(source: Source<'_>, tokens: &'a [Token]) -> Result<(Param, &'a [Tok
     ensures reads { Gives result (param_at source.entry.text.now tokens.now) }
     ensures shorter { IfOk result (λ x. length x.1.now < length tokens.now) }
 {
-    let (sort, rest) = sort(source, tokens)?;
-    let (name, rest) = name(source, rest)?;
-    Ok((Param { sort, name }, rest))
+    match after_placed_opaque(tokens) {
+        Some(((place, kind), rest)) => behind_type(source, place, Sort::Opaque(kind), rest),
+        None => class_param(source, tokens),
+    }
+}
+
+fn class_param<'a>(
+    source: Source<'_>,
+    tokens: &'a [Token],
+) -> Result<(Param, &'a [Token]), ReadFault>
+    ensures reads { Gives result (class_param_at source.entry.text.now tokens.now) }
+    ensures shorter { IfOk result (λ x. length x.1.now < length tokens.now) }
+{
+    let (class, rest) = name(source, tokens)?;
+    let place = class.place;
+    behind_type(source, place, Sort::Class(class), rest)
+}
+
+/// A parameter behind its type, which begins at the place.
+fn behind_type<'a>(
+    source: Source<'_>,
+    place: Place,
+    sort: Sort,
+    tokens: &'a [Token],
+) -> Result<(Param, &'a [Token]), ReadFault>
+    ensures reads { Gives result (param_behind source.entry.text.now place sort tokens.now) }
+    ensures shorter { IfOk result (λ x. length x.1.now < length tokens.now) }
+{
+    let (name, rest) = name(source, tokens)?;
+    Ok((Param { place, sort, name }, rest))
 }
 
 /// `opaque | Name`
@@ -168,6 +206,7 @@ fn class_sort<'a>(source: Source<'_>, tokens: &'a [Token]) -> Result<(Sort, &'a 
     let (class, rest) = name(source, tokens)?;
     Ok((Sort::Class(class), rest))
 }
+
 /// Whether a type can begin with a token of this kind.
 pub fn is_type_start(kind: Kind) -> bool
     ensures { result ≡ type_starts kind }

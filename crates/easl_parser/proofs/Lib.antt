@@ -1,7 +1,9 @@
-pub mod BodyLaws
 pub mod CondLaws
-pub mod DepthLaws
+pub mod Counting
 pub mod Levels
+pub mod Limited
 pub mod MemberLaws
 pub mod PathLaws
+pub mod StepLaws
 pub mod Theorems
+pub mod ValueLaws

@@ -11,11 +11,13 @@ use Rattle.easl_model.specs.declared.token.Token.{Token}
 use Rattle.easl_model.specs.declared.tree.Path.{Path}
 use Rattle.easl_model.specs.declared.tree.Word.{Word}
 use Rattle.cv_read.specs.Read.{is_mark, is_key, is_name, nothing_of, place_of, name_at, behind_mark, items_at}
-use Rattle.cv_read.proofs.Laws.{Lang, Is, none, either, Front, Apart, Reads, One, Or, Mapped, one, mapped, respell}
-use Rattle.cv_read.proofs.Repeats.{Star, repeated}
+use Rattle.cv_read.proofs.Laws.{Lang, Is, none, either, Front, Apart, One, Or, Mapped, no_none}
+use Rattle.cv_read.proofs.Levels.{mark_flat, key_flat, name_flat}
+use Rattle.cv_read.proofs.Repeats.{Star}
 use Rattle.cv_read.proofs.Tested.{mark_to, mark_from, key_to, key_from, name_to, name_from}
-use Rattle.cv_read.proofs.Words.{Led, led, led_starts, two_ways}
-use Rattle.easl_parser.specs.Reading.{field_at, path_of, this_path_at, named_path_at, path_at, path_starts}
+use Rattle.cv_read.proofs.Within.{ReadsWithin, take_within, mapped_within, respell_within, led_within, two_ways_within, repeated_within}
+use Rattle.cv_read.proofs.Words.{Led, led_starts}
+use Rattle.easl_parser.specs.Reading.{field_at, path_of, path_at, path_starts}
 
 -- what a path takes greedily
 abbrev pub PathGoes : Kind → Bool
@@ -24,9 +26,6 @@ PathGoes = either none (is_mark mark.Dot)
 pub name_no_this : Apart is_name (is_key key.This)
 name_no_this kind.Name f g = g
 name_no_this k f g = f
-
-dot_no_none : Apart (is_mark mark.Dot) none
-dot_no_none k f g = g
 
 module _ (text : List ℕ) where
   -- fields
@@ -44,25 +43,19 @@ module _ (text : List ℕ) where
   fields_from w ws no_fields = refl
   fields_from w ws (next_field {dot = d} {t = t} {w = n} {ts = ts} {ws = ns} k i f) = (d ∷ t ∷ [], ts, (d, t ∷ [], mark_from mark.Dot d k, (t, refl, name_from text t n i, i.word), refl), fields_from ts ns f, refl)
 
-  pub field_law : Reads (behind_mark mark.Dot (name_at text)) FieldLang none
-  field_law = led (is_mark mark.Dot) nothing_of (kind.Mark mark.Dot) tt (λ _ us. name_at text us) (λ _. One is_name (word_of text)) none (λ _. one is_name (word_of text) none kind.Name tt)
+  field_within : (d : ℕ) → ReadsWithin (behind_mark mark.Dot (name_at text)) FieldLang none d
+  field_within d = led_within (is_mark mark.Dot) nothing_of (kind.Mark mark.Dot) tt (mark_flat mark.Dot (λ b. refl)) (λ _. take_within is_name (word_of text) none d kind.Name tt name_flat)
 
-  pub field_starts : (w : List Token) (x : Word) → FieldLang w x → Front (is_mark mark.Dot) w
-  field_starts = led_starts (is_mark mark.Dot) nothing_of (λ _. One is_name (word_of text))
-
-  pub field_apart : Apart (is_mark mark.Dot) none
-  field_apart = dot_no_none
-
-  pub fields_law : Reads (items_at (field_at text)) (IsFields text) PathGoes
-  fields_law = respell (items_at (field_at text)) (Star FieldLang) (IsFields text) PathGoes fields_to fields_from
-      (repeated (is_mark mark.Dot) (behind_mark mark.Dot (name_at text)) FieldLang none field_law field_starts field_apart)
+  fields_within : (d : ℕ) → ReadsWithin (items_at (field_at text)) (IsFields text) PathGoes d
+  fields_within d = respell_within fields_to fields_from
+      (repeated_within (is_mark mark.Dot) (led_starts (is_mark mark.Dot) nothing_of (λ _. One is_name (word_of text))) (no_none (is_mark mark.Dot)) (field_within d))
 
   -- paths
   abbrev pub HeadFields : Option Word → Place → Lang Path
   HeadFields h at = Mapped (IsFields text) (λ ws. record { head = h; place = at; fields = ws })
 
-  pub head_law : (h : Option Word) (at : Place) → Reads (path_of text h at) (HeadFields h at) PathGoes
-  head_law h at = mapped (items_at (field_at text)) (λ ws. record { head = h; place = at; fields = ws }) (IsFields text) PathGoes fields_law
+  pub head_within : (h : Option Word) (at : Place) (d : ℕ) → ReadsWithin (path_of text h at) (HeadFields h at) PathGoes d
+  head_within h at d = mapped_within (λ ws. record { head = h; place = at; fields = ws }) (fields_within d)
 
   abbrev ThisPath : Lang Path
   ThisPath = Led (is_key key.This) place_of (HeadFields None)
@@ -82,14 +75,12 @@ module _ (text : List ℕ) where
       let e : ◌≡◌ {A = Path} (record { head = Some n; place = n.place; fields = ws }) (record { head = Some (word_of text t); place = t.place; fields = ws }) = ap (λ (m : Word). record { head = Some m; place = m.place; fields = ws }) i.word in
       inr (t, ts, name_from text t n i, (ws, f, e), refl)
 
-  pub path_law : Reads (path_at text) (IsPath text) PathGoes
+  pub path_within : (d : ℕ) → ReadsWithin (path_at text) (IsPath text) PathGoes d
   unfolding path_at
-  path_law = respell (path_at text) (Or ThisPath NamedPath) (IsPath text) PathGoes path_to path_from
-      (two_ways (is_key key.This) is_name (this_path_at text) (named_path_at text) ThisPath NamedPath PathGoes
-      (led (is_key key.This) place_of (kind.Key key.This) tt (path_of text None) (HeadFields None) PathGoes (head_law None))
-      (led is_name (word_of text) kind.Name tt (λ w. path_of text (Some w) w.place) (λ w. HeadFields (Some w) w.place) PathGoes (λ w. head_law (Some w) w.place))
-      (led_starts (is_key key.This) place_of (HeadFields None))
-      (led_starts is_name (word_of text) (λ w. HeadFields (Some w) w.place)) name_no_this)
+  path_within d = respell_within path_to path_from
+      (two_ways_within (is_key key.This) is_name (led_starts (is_key key.This) place_of (HeadFields None)) (led_starts is_name (word_of text) (λ w. HeadFields (Some w) w.place)) name_no_this
+      (led_within (is_key key.This) place_of (kind.Key key.This) tt (key_flat key.This) (λ at. head_within None at d))
+      (led_within is_name (word_of text) kind.Name tt name_flat (λ w. head_within (Some w) w.place d)))
 
   pub path_begins : (w : List Token) (p : Path) → IsPath text w p → Front path_starts w
   path_begins w p (this_path k f) = subst (λ q. Is (path_starts q)) (sym k.kind) tt

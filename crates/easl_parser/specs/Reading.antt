@@ -14,6 +14,8 @@ use Rattle.easl_model.specs.declared.tree.Cond.TheVariants as cond
 use Rattle.easl_model.specs.declared.tree.Member.{Member}
 use Rattle.easl_model.specs.declared.tree.Member.TheVariants as member
 use Rattle.easl_model.specs.declared.tree.Path.{Path}
+use Rattle.easl_model.specs.declared.tree.Requires.{Requires}
+use Rattle.easl_model.specs.declared.tree.Return.{Return}
 use Rattle.easl_model.specs.declared.tree.Sort.{Sort}
 use Rattle.easl_model.specs.declared.tree.Sort.TheVariants as sort
 use Rattle.easl_model.specs.declared.tree.Spec.{Spec}
@@ -22,8 +24,8 @@ use Rattle.easl_model.specs.declared.tree.Step.TheVariants as step
 use Rattle.easl_model.specs.declared.tree.Value.{Value}
 use Rattle.easl_model.specs.declared.tree.Value.TheVariants as value
 use Rattle.easl_model.specs.declared.tree.Word.{Word}
-use Rattle.cv_read.specs.Read.{Read, Got, Deep, ◌>>=◌, choose, is_mark, is_key, is_name, mark_at, key_at, mark_place_at, key_place_at, name_at, literal_at, behind_mark, behind_key, before_mark, step_at, items_at, listed_at, parens_at}
-use Rattle.cv_read.specs.Types.{opaque_at, type_starts, params_at}
+use Rattle.cv_read.specs.Read.{Read, Got, Deep, ◌>>=◌, take_at, choose, is_mark, is_key, is_name, mark_at, mark_place_at, key_place_at, name_at, literal_at, behind_mark, behind_key, before_mark, step_at, items_at, listed_at, parens_at}
+use Rattle.cv_read.specs.Types.{is_opaque, placed_opaque, type_starts, params_at}
 
 -- paths
 abbrev pub field_at : List ℕ → List Token → Read (Option Word)
@@ -120,7 +122,7 @@ atom_at text d = atom_by text (any_at text d)
 abbrev pub all_at : List ℕ → ℕ → List Token → Read Cond
 all_at text d = all_by (atom_at text d)
 
--- steps
+-- values that are assigned, and steps that hold no others
 unfoldable pub set_at : List ℕ → List Token → Read Value
 set_at text = behind_mark mark.Assign (before_mark mark.Semicolon (value_at text))
 
@@ -140,63 +142,120 @@ named_step_at text ts = name_at text ts >>= λ w us. step_behind text w us
 abbrev pub this_step_at : List ℕ → List Token → Read Step
 this_step_at text ts = key_place_at key.This ts >>= λ at us. assign_at text None at us
 
-unfoldable pub step_read : List ℕ → List Token → Read Step
-step_read text = choose (is_key key.This) (this_step_at text) (named_step_at text)
+unfoldable pub simple_at : List ℕ → List Token → Read Step
+simple_at text = choose (is_key key.This) (this_step_at text) (named_step_at text)
 
-abbrev pub maybe_step_at : List ℕ → List Token → Read (Option Step)
-maybe_step_at text = step_at path_starts (step_read text)
+-- "(" comparison ")"
+unfoldable pub guard_at : List ℕ → List Token → Read Cond
+guard_at text = parens_at (comparison_at text)
 
-abbrev pub steps_at : List ℕ → List Token → Read (List Step)
-steps_at text = items_at (maybe_step_at text)
+-- the rules of steps, each over what reads the steps or the block that stand in it
+abbrev pub block_by : (List Token → Read (List Step)) → List Token → Read (List Step)
+block_by steps = behind_mark mark.Begin (before_mark mark.End steps)
+
+abbrev pub else_by : (List Token → Read (List Step)) → Place → Cond → List Step → List Token → Read Step
+else_by block at c xs ts = behind_key key.Else block ts >>= λ ys us. Got (step.If at c xs ys true) us
+
+abbrev pub end_if_by : (List Token → Read (List Step)) → Place → Cond → List Step → List Token → Read Step
+end_if_by block at c xs = choose (is_key key.Else) (else_by block at c xs) (λ ts. Got (step.If at c xs [] false) ts)
+
+-- a conditional behind its `if`
+unfoldable pub if_by : List ℕ → (List Token → Read (List Step)) → Place → List Token → Read Step
+if_by text block at ts = guard_at text ts >>= λ c us. block us >>= λ xs vs. end_if_by block at c xs vs
+
+abbrev pub if_step_by : List ℕ → (List Token → Read (List Step)) → List Token → Read Step
+if_step_by text block ts = key_place_at key.If ts >>= λ at us. if_by text block at us
+
+abbrev pub step_by : List ℕ → (List Token → Read (List Step)) → List Token → Read Step
+step_by text block = choose (is_key key.If) (if_step_by text block) (simple_at text)
+
+abbrev pub step_starts : Kind → Bool
+step_starts k = is_key key.If k || path_starts k
+
+abbrev pub maybe_step_by : List ℕ → (List Token → Read (List Step)) → List Token → Read (Option Step)
+maybe_step_by text block = step_at step_starts (step_by text block)
+
+-- with fewer than so many lists of steps in one another
+unfoldable pub steps_at : List ℕ → ℕ → List Token → Read (List Step)
+steps_at text zero ts = Deep
+steps_at text (suc d) ts = items_at (maybe_step_by text (block_by (steps_at text d))) ts
+
+abbrev pub block_at : List ℕ → ℕ → List Token → Read (List Step)
+block_at text d = block_by (steps_at text d)
+
+abbrev pub step_read : List ℕ → ℕ → List Token → Read Step
+step_read text d = step_by text (block_at text d)
+
+abbrev pub maybe_step_at : List ℕ → ℕ → List Token → Read (Option Step)
+maybe_step_at text d = maybe_step_by text (block_at text d)
 
 -- a clause behind its keyword
 abbrev pub condition_at : List ℕ → ℕ → List Token → Read Cond
 condition_at text d = before_mark mark.Semicolon (any_at text d)
 
-unfoldable pub clause_at : List ℕ → ℕ → List Token → Read Cond
-clause_at text d = behind_key key.Requires (condition_at text d)
+abbrev pub clause_behind : List ℕ → ℕ → Place → List Token → Read Requires
+clause_behind text d at ts = condition_at text d ts >>= λ x us. Got (record { place = at; condition = x }) us
 
-abbrev pub maybe_clause_at : List ℕ → ℕ → List Token → Read (Option Cond)
+unfoldable pub clause_at : List ℕ → ℕ → List Token → Read Requires
+clause_at text d ts = key_place_at key.Requires ts >>= λ at us. clause_behind text d at us
+
+abbrev pub maybe_clause_at : List ℕ → ℕ → List Token → Read (Option Requires)
 maybe_clause_at text d = step_at (is_key key.Requires) (clause_at text d)
 
-abbrev pub clauses_at : List ℕ → ℕ → List Token → Read (List Cond)
+abbrev pub clauses_at : List ℕ → ℕ → List Token → Read (List Requires)
 clauses_at text d = items_at (maybe_clause_at text d)
 
-abbrev pub return_some : List ℕ → List Token → Read (Option Value)
-return_some text ts = before_mark mark.Semicolon (value_at text) ts >>= λ x us. Got (Some x) us
+-- a return behind its keyword
+abbrev pub return_behind : List ℕ → Place → List Token → Read (Option Return)
+return_behind text at ts = before_mark mark.Semicolon (value_at text) ts >>= λ x us. Got (Some (record { place = at; value = x })) us
 
-unfoldable pub return_at : List ℕ → List Token → Read (Option Value)
-return_at text = choose (is_key key.Return) (behind_key key.Return (return_some text)) (λ ts. Got None ts)
+abbrev pub return_some : List ℕ → List Token → Read (Option Return)
+return_some text ts = key_place_at key.Return ts >>= λ at us. return_behind text at us
 
--- a constructor and a method behind their names
-unfoldable pub constructor_at : List ℕ → Word → List Token → Read Member
-constructor_at text n ts = params_at text ts >>= λ ps us. mark_at mark.Begin us >>= λ _ vs. steps_at text vs >>= λ xs ws. mark_place_at mark.End ws >>= λ e zs.
-    Got (member.Constructor (record { result = sort.Void; name = n; params = ps; clauses = []; body = xs; value = None; end = e })) zs
+unfoldable pub return_at : List ℕ → List Token → Read (Option Return)
+return_at text = choose (is_key key.Return) (return_some text) (λ ts. Got None ts)
 
-unfoldable pub method_at : List ℕ → ℕ → Sort → Word → List Token → Read Member
-method_at text d r n ts = params_at text ts >>= λ ps us. mark_at mark.Begin us >>= λ _ vs. clauses_at text d vs >>= λ cs ws. steps_at text ws >>= λ xs ys. return_at text ys >>= λ x bs. mark_place_at mark.End bs >>= λ e zs.
-    Got (member.Method (record { result = r; name = n; params = ps; clauses = cs; body = xs; value = x; end = e })) zs
+-- a constructor behind its name, and a method behind its name, whose result begins at the place
+unfoldable pub constructor_at : List ℕ → ℕ → Word → List Token → Read Member
+constructor_at text d n ts =
+    params_at text ts >>= λ ps us. mark_at mark.Begin us >>= λ _ vs. steps_at text d vs >>= λ xs ws. mark_place_at mark.End ws >>= λ e zs.
+    Got (member.Constructor (record { place = n.place; result = sort.Void; name = n; params = ps; clauses = []; body = xs; value = None; end = e })) zs
+
+unfoldable pub method_at : List ℕ → ℕ → Place → Sort → Word → List Token → Read Member
+method_at text d at r n ts =
+    params_at text ts >>= λ ps us. mark_at mark.Begin us >>= λ _ vs. clauses_at text d vs >>= λ cs ws. steps_at text d ws >>= λ xs ys.
+    return_at text ys >>= λ x bs. mark_place_at mark.End bs >>= λ e zs.
+    Got (member.Method (record { place = at; result = r; name = n; params = ps; clauses = cs; body = xs; value = x; end = e })) zs
+
+-- a method behind its result
+abbrev pub behind_result : List ℕ → ℕ → Place → Sort → List Token → Read Member
+behind_result text d at r ts = name_at text ts >>= λ n us. method_at text d at r n us
 
 -- a field or a method behind its two names
 abbrev pub behind_two : List ℕ → ℕ → Word → Word → List Token → Read Member
-behind_two text d c n = choose (is_mark mark.Semicolon) (behind_mark mark.Semicolon (λ us. Got (member.Field (record { class = c; name = n })) us)) (method_at text d (sort.Class c) n)
+behind_two text d c n =
+    choose (is_mark mark.Semicolon) (behind_mark mark.Semicolon (λ us. Got (member.Field (record { class = c; name = n })) us))
+    (method_at text d c.place (sort.Class c) n)
 
 abbrev pub two_names_at : List ℕ → ℕ → Word → List Token → Read Member
 two_names_at text d c ts = name_at text ts >>= λ n us. behind_two text d c n us
 
 -- a member behind its first name
 abbrev pub behind_one : List ℕ → ℕ → Word → List Token → Read Member
-behind_one text d c = choose (is_mark mark.Open) (constructor_at text c) (two_names_at text d c)
+behind_one text d c = choose (is_mark mark.Open) (constructor_at text d c) (two_names_at text d c)
 
 abbrev pub named_member_at : List ℕ → ℕ → List Token → Read Member
 named_member_at text d ts = name_at text ts >>= λ c us. behind_one text d c us
 
--- a result that is no class
-abbrev pub plain_at : List Token → Read Sort
-plain_at = choose (is_key key.Void) (behind_key key.Void (λ us. Got sort.Void us)) opaque_at
+-- a method whose result is no class
+abbrev pub void_method_at : List ℕ → ℕ → List Token → Read Member
+void_method_at text d ts = key_place_at key.Void ts >>= λ at us. behind_result text d at sort.Void us
+
+abbrev pub opaque_method_at : List ℕ → ℕ → List Token → Read Member
+opaque_method_at text d ts = take_at is_opaque placed_opaque ts >>= λ o us. behind_result text d o.0 (sort.Opaque o.1) us
 
 abbrev pub plain_method_at : List ℕ → ℕ → List Token → Read Member
-plain_method_at text d ts = plain_at ts >>= λ r us. name_at text us >>= λ n vs. method_at text d r n vs
+plain_method_at text d = choose (is_key key.Void) (void_method_at text d) (opaque_method_at text d)
 
 unfoldable pub member_at : List ℕ → ℕ → List Token → Read Member
 member_at text d = choose is_name (named_member_at text d) (plain_method_at text d)
@@ -212,8 +271,9 @@ abbrev pub members_at : List ℕ → ℕ → List Token → Read (List Member)
 members_at text d = items_at (maybe_member_at text d)
 
 unfoldable pub class_at : List ℕ → ℕ → List Token → Read Class
-class_at text d ts = key_at key.Class ts >>= λ _ us. name_at text us >>= λ n vs. mark_at mark.Begin vs >>= λ _ ws. members_at text d ws >>= λ xs ys. mark_at mark.End ys >>= λ _ zs.
-    Got (record { name = n; members = xs }) zs
+class_at text d ts =
+    key_place_at key.Class ts >>= λ at us. name_at text us >>= λ n vs. mark_at mark.Begin vs >>= λ _ ws. members_at text d ws >>= λ xs ys.
+    mark_at mark.End ys >>= λ _ zs. Got (record { place = at; name = n; members = xs }) zs
 
 abbrev pub maybe_class_at : List ℕ → ℕ → List Token → Read (Option Class)
 maybe_class_at text d = step_at (is_key key.Class) (class_at text d)

@@ -4,7 +4,7 @@
 ghost use Rattle.std.specs.Prelude.{◌≡◌, ◌<◌, ◌≤◌, false, length, IfOk, IsSome};
 ghost use Rattle.easl_model.specs.declared.token.Mark.TheVariants as mark;
 ghost use Rattle.cv_read.specs.Read.{Gives, Got, behind_mark, before_mark, items_at};
-ghost use Rattle.easl_parser.specs.Reading.{sign_at, compare, comparison_at, and_by, or_by, atom_at, all_at, any_by, any_at};
+ghost use Rattle.easl_parser.specs.Reading.{sign_at, compare, comparison_at, guard_at, and_by, or_by, atom_at, all_at, any_by, any_at};
 ghost use Rattle.easl_parser.specs.Reading as reading;
 
 use crate::paths::path;
@@ -169,6 +169,21 @@ fn group<'a>(
     ensures shorter { IfOk result (λ x. length x.1.now < length tokens.now) }
 {
     let (found, rest) = any(source, depth, tokens)?;
+    let rest = mark(Mark::Close, rest)?;
+    Ok((found, rest))
+}
+
+/// `"(" comparison ")"`
+#[tactic(auto, unfolding(crate::specs::Reading::guard_at))]
+pub(crate) fn guard<'a>(
+    source: Source<'_>,
+    tokens: &'a [Token],
+) -> Result<(Cond, &'a [Token]), ReadFault>
+    ensures reads { Gives result (guard_at source.entry.text.now tokens.now) }
+    ensures shorter { IfOk result (λ x. length x.1.now < length tokens.now) }
+{
+    let rest = mark(Mark::Open, tokens)?;
+    let (found, rest) = comparison(source, rest)?;
     let rest = mark(Mark::Close, rest)?;
     Ok((found, rest))
 }

@@ -1,14 +1,17 @@
 //! Classes and their members. Where rules begin alike, the common part is read first.
-ghost use Rattle.std.specs.Prelude.{◌≡◌, ◌<◌, ◌≤◌, length, IfOk, IsSome};
-ghost use Rattle.cv_read.specs.Read.{Gives, begins};
-ghost use Rattle.easl_parser.specs.Reading.{constructor_at, method_at, behind_two, two_names_at, behind_one, named_member_at, plain_at, plain_method_at, member_at, member_starts, maybe_member_at, members_at, class_at};
+ghost use Rattle.std.specs.Prelude.{◌≡◌, ◌≢◌, ◌<◌, ◌≤◌, length, IfErr, IfOk, IsSome};
+ghost use Rattle.easl_model.specs.declared.token.Key.TheVariants as key;
+ghost use Rattle.cv_read.specs.Read.{Gives, begins, key_place_at};
+ghost use Rattle.cv_read.specs.declared.fault.ReadFault.TheVariants.{Memory};
+ghost use Rattle.easl_parser.specs.Reading.{constructor_at, method_at, behind_two, two_names_at, behind_one, named_member_at, behind_result, opaque_method_at, plain_method_at, member_at, member_starts, maybe_member_at, members_at, class_at};
 
-use crate::bodies::{clauses, returned, steps};
+use crate::bodies::{clauses, returned};
+use crate::steps::steps;
 use cv_read::{
-    ReadFault, Source, after_key, after_mark, begins_mark, begins_name, front, is_type_start, key,
-    mark, name, opaque_sort, params, placed_mark,
+    ReadFault, Source, after_mark, after_placed_opaque, begins_mark, begins_name, front,
+    is_type_start, mark, name, params, placed_key, placed_mark,
 };
-use easl_model::{Class, Code, Field, Key, Kind, Mark, Member, Sort, Token, Word};
+use easl_model::{Class, Code, Field, Key, Kind, Mark, Member, Place, Sort, Token, Word};
 use sqlite_items::Items;
 
 /// `"class" Name "{" member* "}"`
@@ -21,12 +24,29 @@ pub(crate) fn class<'a>(
     ensures reads { Gives result (class_at source.entry.text.now depth tokens.now) }
     ensures shorter { IfOk result (λ x. length x.1.now < length tokens.now) }
 {
-    let rest = key(Key::Class, tokens)?;
+    let (place, rest) = class_key(tokens)?;
     let (name, rest) = name(source, rest)?;
     let rest = mark(Mark::Begin, rest)?;
     let (members, rest) = members(source, depth, rest)?;
     let rest = mark(Mark::End, rest)?;
-    Ok((Class { name, members }, rest))
+    let class = Class {
+        place,
+        name,
+        members,
+    };
+    Ok((class, rest))
+}
+
+/// The place of the keyword that begins a class, and the tokens after it.
+fn class_key(tokens: &[Token]) -> Result<(Place, &[Token]), ReadFault>
+    ensures reads { Gives result (key_place_at key.Class tokens.now) }
+    ensures memory { IfErr result (λ e. e ≢ Memory) }
+    ensures shorter { IfOk result (λ x. length x.1.now < length tokens.now) }
+{
+    match placed_key(Key::Class, tokens) {
+        Some(found) => Ok(found),
+        None => Err(ReadFault::Syntax(tokens.len())),
+    }
 }
 
 /// `member*`
@@ -118,7 +138,7 @@ fn behind_name<'a>(
     ensures shorter { IfOk result (λ x. length x.1.now < length tokens.now) }
 {
     if begins_mark(Mark::Open, tokens) {
-        constructor(source, first, tokens)
+        constructor(source, depth, first, tokens)
     } else {
         behind_class(source, depth, first, tokens)
     }
@@ -151,7 +171,10 @@ fn behind_both<'a>(
 {
     match after_mark(Mark::Semicolon, tokens) {
         Some(rest) => Ok((Member::Field(Field { class, name }), rest)),
-        None => method(source, depth, Sort::Class(class), name, tokens),
+        None => {
+            let place = class.place;
+            method(source, depth, place, Sort::Class(class), name, tokens)
+        }
     }
 }
 
@@ -164,36 +187,60 @@ fn plain_method<'a>(
     ensures reads { Gives result (plain_method_at source.entry.text.now depth tokens.now) }
     ensures shorter { IfOk result (λ x. length x.1.now < length tokens.now) }
 {
-    let (sort, rest) = plain(tokens)?;
-    let (name, rest) = name(source, rest)?;
-    method(source, depth, sort, name, rest)
+    match placed_key(Key::Void, tokens) {
+        Some((place, rest)) => behind_result(source, depth, place, Sort::Void, rest),
+        None => opaque_method(source, depth, tokens),
+    }
 }
 
-fn plain(tokens: &[Token]) -> Result<(Sort, &[Token]), ReadFault>
-    ensures reads { Gives result (plain_at tokens.now) }
+fn opaque_method<'a>(
+    source: Source<'_>,
+    depth: u32,
+    tokens: &'a [Token],
+) -> Result<(Member, &'a [Token]), ReadFault>
+    ensures reads { Gives result (opaque_method_at source.entry.text.now depth tokens.now) }
     ensures shorter { IfOk result (λ x. length x.1.now < length tokens.now) }
 {
-    match after_key(Key::Void, tokens) {
-        Some(rest) => Ok((Sort::Void, rest)),
-        None => opaque_sort(tokens),
+    match after_placed_opaque(tokens) {
+        Some(((place, kind), rest)) => {
+            behind_result(source, depth, place, Sort::Opaque(kind), rest)
+        }
+        None => Err(ReadFault::Syntax(tokens.len())),
     }
+}
+
+/// A method behind its result, which begins at the place.
+fn behind_result<'a>(
+    source: Source<'_>,
+    depth: u32,
+    place: Place,
+    sort: Sort,
+    tokens: &'a [Token],
+) -> Result<(Member, &'a [Token]), ReadFault>
+    ensures reads { Gives result (behind_result source.entry.text.now depth place sort tokens.now) }
+    ensures shorter { IfOk result (λ x. length x.1.now < length tokens.now) }
+{
+    let (name, rest) = name(source, tokens)?;
+    method(source, depth, place, sort, name, rest)
 }
 
 /// A constructor behind its name.
 #[tactic(auto, unfolding(crate::specs::Reading::constructor_at))]
 fn constructor<'a>(
     source: Source<'_>,
+    depth: u32,
     name: Word,
     tokens: &'a [Token],
 ) -> Result<(Member, &'a [Token]), ReadFault>
-    ensures reads { Gives result (constructor_at source.entry.text.now name tokens.now) }
+    ensures reads { Gives result (constructor_at source.entry.text.now depth name tokens.now) }
     ensures shorter { IfOk result (λ x. length x.1.now < length tokens.now) }
 {
     let (params, rest) = params(source, tokens)?;
     let rest = mark(Mark::Begin, rest)?;
-    let (body, rest) = steps(source, rest)?;
+    let (body, rest) = steps(source, depth, rest)?;
     let (end, rest) = placed_mark(Mark::End, rest)?;
     let code = Code {
+        place: name.place,
         result: Sort::Void,
         name,
         params,
@@ -205,25 +252,27 @@ fn constructor<'a>(
     Ok((Member::Constructor(code), rest))
 }
 
-/// A method behind its name.
+/// A method behind its name, whose result begins at the place.
 #[tactic(auto, unfolding(crate::specs::Reading::method_at))]
 fn method<'a>(
     source: Source<'_>,
     depth: u32,
+    place: Place,
     sort: Sort,
     name: Word,
     tokens: &'a [Token],
 ) -> Result<(Member, &'a [Token]), ReadFault>
-    ensures reads { Gives result (method_at source.entry.text.now depth sort name tokens.now) }
+    ensures reads { Gives result (method_at source.entry.text.now depth place sort name tokens.now) }
     ensures shorter { IfOk result (λ x. length x.1.now < length tokens.now) }
 {
     let (params, rest) = params(source, tokens)?;
     let rest = mark(Mark::Begin, rest)?;
     let (clauses, rest) = clauses(source, depth, rest)?;
-    let (body, rest) = steps(source, rest)?;
+    let (body, rest) = steps(source, depth, rest)?;
     let (value, rest) = returned(source, rest)?;
     let (end, rest) = placed_mark(Mark::End, rest)?;
     let code = Code {
+        place,
         result: sort,
         name,
         params,

@@ -2,11 +2,11 @@ use Rattle.std.proofs.Common.{refl, ap, ◌∙◌}
 use Rattle.cv_read.specs.Read.{Got}
 use Rattle.cv_read.proofs.Along.{goes_on}
 use Rattle.easl_parser.specs.Reading.{maybe_class_at}
-use Rattle.easl_parser.specs.declared.whole.TheConstants.{MOST_CONDITIONS}
+use Rattle.easl_parser.specs.declared.whole.TheConstants.{MOST_NESTED}
 use Rattle.easl_parser.proofs.whole.more_classes.Goals as goal
 
 pub each-preserved : goal.each-preserved
 each-preserved c =
-    goes_on (maybe_class_at c.args.source.text.now MOST_CONDITIONS) _ _ _ _ _ c.in-Some.item c.each.invariant
+    goes_on (maybe_class_at c.args.source.text.now MOST_NESTED) _ _ _ _ _ c.in-Some.item c.each.invariant
     (c.in_ok-item.ensures.reads ∙ ap (λ f. Got f c.in_ok-item.more.now) c.in-Some.is)
     (c.in_ok-item.ensures.takes (rw c.in-Some.is refl)) c.in_ok-push-in-Some.ensures.ok
