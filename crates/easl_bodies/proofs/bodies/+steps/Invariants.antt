@@ -1,0 +1,11 @@
+use Rattle.std.proofs.Common.{◌≡◌, drop}
+use Rattle.easl_model.specs.BodyFaults.{after_all, faults_of_block}
+use Rattle.easl_model.specs.Faults.{comes_before, first_with}
+use Rattle.easl_model.specs.Steps.{block_of}
+use Rattle.easl_bodies.proofs.bodies.+steps.Given as goal
+
+abbrev pub invariant-faults_of_steps-each : goal.invariant-faults_of_steps-each
+invariant-faults_of_steps-each l = record {
+  found : first_with comes_before l.found (faults_of_block l.spec l.context (block_of (drop l.step-index l.steps))) ≡ first_with comes_before l.fn.start (faults_of_block l.spec l.fn.context (block_of l.steps));
+  behind : after_all l.spec l.context (block_of (drop l.step-index l.steps)) ≡ after_all l.spec l.fn.context (block_of l.steps);
+}

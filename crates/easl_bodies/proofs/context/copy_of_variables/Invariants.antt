@@ -1,0 +1,5 @@
+use Rattle.std.proofs.Common.{◌≡◌, take}
+use Rattle.easl_bodies.proofs.context.copy_of_variables.Given as goal
+
+abbrev pub invariant-each : goal.invariant-each
+invariant-each l = l.copy ≡ take l.variable-index l.variables

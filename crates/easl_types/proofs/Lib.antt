@@ -1,0 +1,10 @@
+pub mod ActForms
+pub mod Checking
+pub mod Counting
+pub mod Cutting
+pub mod Ends
+pub mod Least
+pub mod MethodForms
+pub mod PartsGrown
+pub mod Rounds
+pub mod Seconds

@@ -1,0 +1,12 @@
+use Rattle.std.proofs.Common.{◌≡◌, drop, map}
+use Rattle.std.specs.List.{flat_map}
+use Rattle.easl_model.specs.Bodies.{method_body}
+use Rattle.easl_model.specs.Names.{methods_in}
+use Rattle.easl_model.specs.BodyFaults.{faults_of_body}
+use Rattle.easl_model.specs.Faults.{comes_before, first_with}
+use Rattle.easl_types.proofs.classes.faults_of_methods.Given as goal
+
+abbrev pub invariant-each : goal.invariant-each
+invariant-each l =
+    first_with comes_before l.found (flat_map (faults_of_body l.spec) (map (method_body l.number) (methods_in (drop l.member-index l.members))))
+    ≡ first_with comes_before l.fn.start (flat_map (faults_of_body l.spec) (map (method_body l.number) (methods_in l.members)))

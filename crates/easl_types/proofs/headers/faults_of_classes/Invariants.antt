@@ -1,0 +1,10 @@
+use Rattle.std.proofs.Common.{◌≡◌, drop}
+use Rattle.std.specs.List.{flat_map}
+use Rattle.easl_model.specs.Faults.{comes_before, first_with}
+use Rattle.easl_model.specs.HeaderFaults.{faults_of_class}
+use Rattle.easl_types.proofs.headers.faults_of_classes.Given as goal
+
+abbrev pub invariant-each : goal.invariant-each
+invariant-each l =
+    first_with comes_before l.found (flat_map (faults_of_class l.spec) (drop l.class-index l.classes))
+    ≡ first_with comes_before l.fn.start (flat_map (faults_of_class l.spec) l.classes)

@@ -1,0 +1,10 @@
+use Rattle.std.proofs.Common.{◌≡◌, [], drop, map}
+use Rattle.easl_model.specs.Faults.{comes_before, first_with}
+use Rattle.easl_model.specs.HeaderFaults.{second_names}
+use Rattle.easl_model.specs.Names.{methods_in}
+use Rattle.easl_types.proofs.headers.second_methods.Given as goal
+
+abbrev pub invariant-each : goal.invariant-each
+invariant-each l =
+    first_with comes_before l.found (second_names l.before (map (λ code. code.name) (methods_in (drop l.member-index l.members))))
+    ≡ first_with comes_before l.fn.start (second_names [] (map (λ code. code.name) (methods_in l.members)))

@@ -1,6 +1,0 @@
-use Rattle.std.proofs.Common.{◌≡◌, drop}
-use Rattle.easl_model.specs.Names.{constructor_in}
-use Rattle.first_form.proofs.names.constructor_among.Given as goal
-
-abbrev pub invariant-each : goal.invariant-each
-invariant-each l = constructor_in (drop l.member-index l.members) ≡ constructor_in l.members
