@@ -1,0 +1,14 @@
+pub mod After
+pub mod Cutting
+pub mod Enclosed
+pub mod Ends
+pub mod ListNests
+pub mod ListPrints
+pub mod Longest
+pub mod Nesting
+pub mod Parts
+pub mod Printed
+pub mod Single
+pub mod Spelled
+pub mod Splits
+pub mod Words

@@ -1,0 +1,4 @@
+pub mod Layout
+pub mod Page
+pub mod Tokens
+pub mod Words

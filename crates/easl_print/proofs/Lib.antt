@@ -1,0 +1,9 @@
+pub mod Blocks
+pub mod BodyPrints
+pub mod CondPrints
+pub mod Limits
+pub mod MemberPrints
+pub mod NestingRules
+pub mod PlainSteps
+pub mod SameText
+pub mod Whole
