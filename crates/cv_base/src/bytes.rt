@@ -1,3 +1,4 @@
+//! Bytes that contracts see as a list.
 use std::marker::Model;
 
 /// Bytes, which contracts see as their list.

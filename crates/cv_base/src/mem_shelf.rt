@@ -1,3 +1,4 @@
+//! A shelf in memory, for tests.
 ghost use Rattle.std.specs.Prelude.{◌≡◌, ◌≢◌, ℕ, ◌+◌, ◌<◌, ◌≤◌, ◌==◌, List, length, take, None, IsSome, is_none, IfOk, IsErrOf, MatchResult, if◌then◌else◌};
 ghost use Rattle.std.specs.List.{list_any};
 ghost use Rattle.std.specs.Option.{option_copied};

@@ -1,3 +1,4 @@
+//! A sink in memory, for tests.
 ghost use Rattle.std.specs.Prelude.{◌≡◌, ℕ, ◌+◌, ◌<◌, ◌≤◌, ◌++◌, [], length, take, IfOk, OnErr, vec_len, vec_capacity};
 ghost use Rattle.cv_base.specs.Causes.{Rose, Appends};
 

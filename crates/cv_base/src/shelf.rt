@@ -1,3 +1,4 @@
+//! What texts are loaded from.
 ghost use Rattle.std.specs.Prelude.{◌≡◌, ◌≢◌, ℕ, ◌+◌, ◌<◌, ◌≤◌, List, length, Option, IsSome, IfOk, IsErrOf};
 ghost use Rattle.cv_base.specs.Causes.{Rose, Begins};
 

@@ -1,3 +1,4 @@
+//! What answers are written to.
 ghost use Rattle.std.specs.Prelude.{◌≡◌, ℕ, ◌<◌, ◌≤◌, List, length, take, Option, IfOk, OnErr};
 ghost use Rattle.cv_base.specs.Causes.{Rose, Appends};
 

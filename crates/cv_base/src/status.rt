@@ -1,3 +1,4 @@
+//! How a run of the program ends, and the code of that.
 ghost use Rattle.std.specs.Prelude.{◌≡◌};
 ghost use Rattle.cv_base.specs.Code.{code_of};
 
