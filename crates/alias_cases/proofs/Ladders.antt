@@ -10,9 +10,8 @@ use Rattle.std.proofs.lemmas.Cmp.{tied_itself}
 use Rattle.std.proofs.lemmas.Option.{get_or_from_slice_get, slice_get_within}
 use Rattle.std.proofs.lemmas.Slice.Zip.{AllZip-long}
 use Rattle.easl_model.specs.Form.{Form, fields_of}
-use Rattle.easl_model.proofs.FormsInRange.{zip_at}
+use Rattle.easl_model.proofs.Items.{zip_at, zip_from}
 use Rattle.easl_heap.specs.Full.{FieldsLead}
-use Rattle.easl_heap.proofs.FormFields.{zip_from}
 use Rattle.access_paths.specs.Fitting.{IsTermOf}
 use Rattle.access_paths.specs.Terms.{compare_terms, field, term}
 use Rattle.access_paths.specs.declared.term.Term.{Term}

@@ -3,7 +3,7 @@ use Rattle.std.proofs.Common.{◌≡◌, ℕ, zero, suc, ◌+◌, ◌<◌, List,
 use Rattle.std.specs.Cmp.Lexicographic.{slice_cmp}
 use Rattle.std.specs.Ordering.{nat_cmp}
 use Rattle.std.proofs.lemmas.Cmp.{nat_list_cmp_total, tied_itself}
-use Rattle.easl_model.proofs.Standing.{item_at}
+use Rattle.easl_model.proofs.Items.{item_at}
 use Rattle.access_paths.specs.declared.term.Term.{Term}
 use Rattle.case_model.specs.Configurations.{AreConfigurations, AreMoreThan, IsConfiguration}
 use Rattle.case_model.specs.TermLists.{IsTermList}

@@ -11,11 +11,10 @@ use Rattle.easl_model.specs.Conditions.{Condition, Conditions, condition_of, Sam
 use Rattle.easl_model.specs.Form.{Form}
 use Rattle.easl_model.specs.declared.form.Method.{Method}
 use Rattle.easl_model.specs.declared.form.Reach.{Reach}
-use Rattle.easl_model.proofs.Standing.{item_at}
+use Rattle.easl_model.proofs.Items.{item_at, zip_from}
 use Rattle.easl_heap.specs.Clause.{holds, first_failing}
 use Rattle.easl_heap.specs.Clause as clause
 use Rattle.easl_heap.specs.Heap.{Object, IsObjectOf, get, reached}
-use Rattle.easl_heap.proofs.FormFields.{zip_from}
 use Rattle.easl_heap.proofs.Writes.{one_class}
 use Rattle.access_paths.specs.Fitting.{IsTermOf}
 use Rattle.access_paths.specs.Terms.{field}

@@ -12,7 +12,7 @@ use Rattle.std.proofs.lemmas.List.Sums.{fold-append}
 use Rattle.easl_model.specs.Form.{Form}
 use Rattle.easl_heap.specs.Full.{IsGiven}
 use Rattle.easl_heap.specs.Heap.{Object, IsFull, IsObjectOf, get}
-use Rattle.easl_heap.proofs.FormFields.{zip_from}
+use Rattle.easl_model.proofs.Items.{zip_from}
 use Rattle.easl_heap.proofs.FullHeaps.{full_whole}
 use Rattle.access_paths.specs.Fitting.{IsTermOf}
 use Rattle.access_paths.specs.Terms.{compare_terms, field, term}

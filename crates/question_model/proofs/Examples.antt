@@ -9,7 +9,7 @@ use Rattle.easl_model.specs.declared.form.ClassForm.{ClassForm}
 use Rattle.easl_model.specs.declared.form.Method.{Method}
 use Rattle.easl_model.specs.declared.form.Reach as path
 use Rattle.easl_model.specs.declared.form.Source.TheVariants.{Make}
-use Rattle.easl_model.proofs.Acts.{write_statement}
+use Rattle.easl_model.proofs.Folds.{write_act}
 use Rattle.access_paths.specs.Terms.{term}
 use Rattle.access_paths.specs.Trees.{Leaf, Ask}
 use Rattle.access_paths.specs.declared.term.Family.{Family}
@@ -88,7 +88,7 @@ abbrev fresh : Condition
 fresh = Same (reach 0 (1 ∷ [])) (reach 0 (0 ∷ 0 ∷ []))
 
 added : statement_of new_ver ≡ Write (reach 0 []) 0 (Make 2 [])
-added = write_statement (reach 0 []) 0 (Make 2 [])
+added = write_act (reach 0 []) 0 (Make 2 [])
 
 pub add_stale : IsTree (λ answers. update form (Some 6) answers add stale 0)
     (Ask (term 3 []) (term 0 (0 ∷ []))

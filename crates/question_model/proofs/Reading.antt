@@ -1,7 +1,6 @@
 -- Reading through the writes gives what the fields hold now.
-use Rattle.std.proofs.Common.{inl, inr, ◌≡◌, ℕ, zero, suc, ◌+◌, ◌<◌, Bool, true, false, ◌==◌, ◌&&◌, if◌then◌else◌, List, [], ◌∷◌, ◌++◌, length, fold, Option, Some, None, slice_get, slice_index, arith, refl, ap, sym, subst, ◌∙◌, true≢false, eq-eqb, ne_eqb}
+use Rattle.std.proofs.Common.{inl, inr, ◌≡◌, ℕ, zero, suc, ◌+◌, ◌<◌, Bool, true, false, ◌==◌, ◌&&◌, if◌then◌else◌, List, [], ◌∷◌, ◌++◌, length, fold, Option, Some, None, slice_get, slice_index, arith, refl, ap, sym, subst, ◌∙◌, true≢false, eq-eqb, eqb-true, ne_eqb}
 use Rattle.easl_model.specs.Form.{Form, fields_of}
-use Rattle.easl_model.proofs.FormsInRange.{same_or_not}
 use Rattle.easl_heap.specs.Full.{FieldsLead}
 use Rattle.easl_heap.specs.Heap.{Object, IsObjectOf, get}
 use Rattle.easl_heap.proofs.FullHeaps.{full_whole}
@@ -30,11 +29,11 @@ lead_on form class [] p middle end leads at = (end, ap (λ c. slice_get (fields_
 lead_on form class (q ∷ ps) p middle end leads at = (leads.0, leads.1, lead_on form leads.0 ps p middle end leads.2 at)
 
 shifted : (k m n : ℕ) → (m == n) ≡ ((k + suc m) == (k + suc n))
-shifted k m n =
-    elim (same_or_not m n) [
-      | inl e ↦ eq-eqb m n e ∙ sym (eq-eqb (k + suc m) (k + suc n) (omega arith))
-      | inr other ↦ ne_eqb m n other ∙ sym (ne_eqb (k + suc m) (k + suc n) (λ e. other (omega arith)))
-    ]
+shifted k m n = by (m == n) refl
+  where
+    by : (b : Bool) → (m == n) ≡ b → b ≡ ((k + suc m) == (k + suc n))
+    by true e = let one = eqb-true m n e in sym (eq-eqb (k + suc m) (k + suc n) (omega (arith, one)))
+    by false e = sym (ne_eqb (k + suc m) (k + suc n) (λ same. absurd (let one = eq-eqb m n (omega (arith, same)) in cc)))
 
 and_true : (a b : Bool) → true ≡ b → a ≡ (a && b)
 and_true true b e = e

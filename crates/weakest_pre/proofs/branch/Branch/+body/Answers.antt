@@ -1,7 +1,7 @@
 use Rattle.std.proofs.Common.{arith, ap, ◌∙◌}
 use Rattle.easl_model.specs.Conditions.{condition_of}
 use Rattle.easl_model.specs.Statements.{statement_of, statements_of}
-use Rattle.easl_model.proofs.Acts.{if_statement}
+use Rattle.easl_model.proofs.Folds.{if_act}
 use Rattle.question_model.specs.Bodies.{made}
 use Rattle.question_model.specs.States.{state}
 use Rattle.weakest_pre.specs.Running.{most}
@@ -26,7 +26,7 @@ step-returns-then-branch t c =
     if_leaves c.args.self.now.spec.now c.args.self.now.answers.now (made c.args.self.now.spec.now most c.args.self.now.answers.now c.args.depth)
     (statement_of c.args.act.now) (condition_of c.in-If.test) (statements_of c.in-If.first) (statements_of c.in-If.second)
     (statements_of c.as_slice-then-branch.result.now)
-    (ap statement_of c.in-If.is ∙ if_statement c.in-If.test c.in-If.first c.in-If.second)
+    (ap statement_of c.in-If.is ∙ if_act c.in-If.test c.in-If.first c.in-If.second)
     (state c.args.slots.now.items c.args.effects.now.writes.items c.args.effects.now.count)
     c.in_ok-holds-in-If.field-0 (rw c.as_slice-in-If.ensures.value at c.in_ok-holds-in-If.ensures)
     (rw c.if-branch.true (ap statements_of c.as_slice-then-branch.ensures))
@@ -38,7 +38,7 @@ step-returns-else-branch t c =
     if_leaves c.args.self.now.spec.now c.args.self.now.answers.now (made c.args.self.now.spec.now most c.args.self.now.answers.now c.args.depth)
     (statement_of c.args.act.now) (condition_of c.in-If.test) (statements_of c.in-If.first) (statements_of c.in-If.second)
     (statements_of c.as_slice-else-branch.result.now)
-    (ap statement_of c.in-If.is ∙ if_statement c.in-If.test c.in-If.first c.in-If.second)
+    (ap statement_of c.in-If.is ∙ if_act c.in-If.test c.in-If.first c.in-If.second)
     (state c.args.slots.now.items c.args.effects.now.writes.items c.args.effects.now.count)
     c.in_ok-holds-in-If.field-0 (rw c.as_slice-in-If.ensures.value at c.in_ok-holds-in-If.ensures)
     (rw c.if-branch.false (ap statements_of c.as_slice-else-branch.ensures))
