@@ -1,2 +1,12 @@
+pub mod Ending
+pub mod Entries
 pub mod Exactness
+pub mod Fitting
+pub mod Meeting
+pub mod OneClass
+pub mod OneEnd
+pub mod OneReply
+pub mod Questions
+pub mod Replying
+pub mod Rounds
 pub mod Scopes

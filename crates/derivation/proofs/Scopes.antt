@@ -35,7 +35,7 @@ tree_typed form most variables (Ask u v x y) asks t has =
     (which_member u (v ∷ terms_of_tree x ++ terms_of_tree y) t has)
 
 -- a variable that has an object before the call has one of the class that the family tells
-known_before : (m : Method) (family : Family) (results v start : ℕ) → slice_get (variables_of m (before_call family results)) v ≡ Some (Some start)
+pub known_before : (m : Method) (family : Family) (results v start : ℕ) → slice_get (variables_of m (before_call family results)) v ≡ Some (Some start)
     → slice_get (question_variables m (Some family)) v ≡ Some (Some start)
 known_before m family results v start = by v
   where
