@@ -1,3 +1,4 @@
+//! Clients that were checked.
 use crate::form::{CallSite, Procedure};
 use sqlite_items::Items;
 use std::marker::Model;

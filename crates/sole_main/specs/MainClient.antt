@@ -1,22 +1,22 @@
 -- The forms of clients that are built so far.
 use Rattle.std.specs.Prelude.{ℕ, List}
-use Rattle.client_model.specs.Grammar.{IsClient}
+use Rattle.client_model.specs.Checked.{Spells}
 use Rattle.client_model.specs.Rules.{IsWellFormed}
 use Rattle.client_model.specs.SoleMain.{IsSoleMain}
 use Rattle.client_model.specs.Statements.{Statements}
 use Rattle.client_model.specs.Straight.{IsStraightMain}
 use Rattle.client_model.specs.declared.tree.Client.{Client}
-use Rattle.cv_read.specs.Answers.{AreTaken}
-use Rattle.easl_model.specs.Brackets.{Shallow}
 use Rattle.easl_model.specs.Form.{Form}
-use Rattle.easl_model.specs.declared.token.Tokens.{Tokens}
+use Rattle.sole_main.specs.Plain.{IsPlainText}
 
 -- the text has plain bytes alone, and the whole text spells the client, with at most 64 brackets unclosed at once
 pub record SpellsClient (text : List ℕ) (client : Client) : Type 0 where
-  pub tokens : Tokens
-  pub taken : AreTaken text tokens
-  pub shallow : Shallow tokens.list
-  pub spelled : IsClient text tokens.end tokens.list client
+  pub plain : IsPlainText text
+  pub spells : Spells text client
+
+-- the text spells no client, or has other bytes
+abbrev pub SpellsNone : List ℕ → Type 0
+SpellsNone text = (client : Client) → SpellsClient text client → ⊥
 
 -- the only item is a `main` that calls no procedure, these are its statements, and it breaks no rule of the specification
 pub record IsMainClient (form : Form) (text : List ℕ) (body : Statements) : Type 0 where

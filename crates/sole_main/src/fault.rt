@@ -1,3 +1,4 @@
+//! Why a client is not one procedure of plain statements.
 use std::alloc::{AllocError, AllocFailed};
 
 /// Why a client is not taken.

@@ -8,6 +8,7 @@ mod fault;
 mod made;
 mod marks;
 mod names;
+mod plain;
 mod read;
 mod scope;
 mod straight;

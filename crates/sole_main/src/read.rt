@@ -3,10 +3,12 @@ ghost use Rattle.std.specs.Prelude.{◌≡◌, ◌≢◌, ◌≤◌, false, leng
 ghost use Rattle.client_model.specs.Statements as tree;
 ghost use Rattle.client_model.specs.Straight.{IsStraightMain};
 ghost use Rattle.sole_main.specs.Checked.{IsCheckedStraight, IsNoStraight, IsSpelled};
+ghost use Rattle.sole_main.specs.MainClient.{SpellsClient, SpellsNone};
 ghost use Rattle.sole_main.specs.Reading.{IsNotRead, IsNotStraight, IsRead, IsReadStraight};
 
 use crate::check::{check_main, sole_main};
 use crate::fault::MainFault;
+use crate::plain::is_plain_text;
 use crate::straight::are_straight;
 use client_model::{CheckedClient, Client};
 use client_parser::read_client;
@@ -15,23 +17,23 @@ use easl_model::CheckedSpec;
 use std::alloc::Global;
 
 /// Reads the client that the text spells, checks it against a specification, and gives its checked form. `NotBuilt`
-/// comes exactly where the text's only item is no `main` without procedure calls, or breaks a rule; `Memory` where
-/// none is found.
+/// comes exactly where the text has a byte above 127, a `/` or a `\`, or spells no client, or where its only item is no
+/// `main` without procedure calls, or breaks a rule; `Memory` where none is found.
 #[tactic(auto, using(crate::proofs::Texts::is_spelled, crate::proofs::Texts::is_read))]
 pub fn read_main(alloc: Global, spec: &CheckedSpec, text: &[u8]) -> Result<CheckedClient, MainFault>
     requires { length text.now ≤ 1048576 }
     ensures taken { IfOk result (IsRead spec.now text.now) }
     ensures refused { IsErrOf result MainFault.NotBuilt → IsNotRead spec.now text.now }
 {
-    match read_client(alloc, text) {
+    match client_of(alloc, text) {
         Ok(client) => check_main(alloc, spec, &client),
-        Err(fault) => Err(of_text(fault)),
+        Err(fault) => Err(fault),
     }
 }
 
 /// The same of clients whose `main` is straight code. `NotBuilt` comes exactly where the text is not of this form;
 /// `Memory` where none is found.
-#[tactic(auto, using(crate::proofs::Texts::is_spelled, crate::proofs::Texts::is_read_straight))]
+#[tactic(auto, using(crate::proofs::Texts::is_spelled))]
 pub fn read_straight(
     alloc: Global,
     spec: &CheckedSpec,
@@ -41,8 +43,24 @@ pub fn read_straight(
     ensures taken { IfOk result (IsReadStraight spec.now text.now) }
     ensures refused { IsErrOf result MainFault.NotBuilt → IsNotStraight spec.now text.now }
 {
-    match read_client(alloc, text) {
+    match client_of(alloc, text) {
         Ok(client) => check_straight(alloc, spec, &client),
+        Err(fault) => Err(fault),
+    }
+}
+
+/// The client that the text of plain bytes spells. `NotBuilt` comes where it has other bytes, or spells none.
+#[tactic(auto, using(crate::proofs::Texts::spells, crate::proofs::Texts::no_plain_text, crate::proofs::Texts::spells_none))]
+fn client_of(alloc: Global, text: &[u8]) -> Result<Client, MainFault>
+    requires { length text.now ≤ 1048576 }
+    ensures spelled { IfOk result (SpellsClient text.now) }
+    ensures refused { IsErrOf result MainFault.NotBuilt → SpellsNone text.now }
+{
+    if !is_plain_text(text) {
+        return Err(MainFault::NotBuilt);
+    }
+    match read_client(alloc, text) {
+        Ok(client) => Ok(client),
         Err(fault) => Err(of_text(fault)),
     }
 }

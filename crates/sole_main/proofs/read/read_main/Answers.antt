@@ -6,4 +6,4 @@ pub returns-in-Ok-clause-refused : goal.returns-in-Ok-clause-refused
 returns-in-Ok-clause-refused c e = not_read c.args.spec.now c.args.text.now c.in-Ok.client (search rules) (c.check_main.ensures.refused e)
 
 pub returns-in-Err-clause-refused : goal.returns-in-Err-clause-refused
-returns-in-Err-clause-refused c e = not_spelled c.args.spec.now c.args.text.now c.in-Err.fault (search rules) (search rules)
+returns-in-Err-clause-refused c e = not_spelled c.args.spec.now c.args.text.now (c.client_of.ensures.refused (search rules))
