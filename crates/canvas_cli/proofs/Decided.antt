@@ -1,36 +1,74 @@
 -- From what is read to what the texts decide.
-use Rattle.std.proofs.Common.{ℕ, ◌≤◌, Bool, List, length}
+use Rattle.std.proofs.Common.{◌≡◌, ℕ, ◌≤◌, Bool, List, None, length, subst}
 use Rattle.std.specs.Prelude.{Err, Ok, IfOk, Result}
-use Rattle.canvas_cli.specs.Verdicts.{ClientVerdict, Decides, IsAnswer, IsClient, IsNoClient, IsNoSpecification, IsSpecification}
+use Rattle.canvas_cli.specs.Readings.{AnswersFault, Breaks, IsDerivation, Refuses}
+use Rattle.canvas_cli.specs.Refusals.{IsTree}
+use Rattle.canvas_cli.specs.Verdicts.{ClientVerdict, Decides, DecidesOne, HasManyCases, IsAnswer, IsClient, IsClosed, IsNoClient, IsOpen, IsSpecification}
 use Rattle.canvas_cli.specs.declared.answer.Role.TheVariants.{Specification}
 use Rattle.canvas_cli.specs.declared.answer.Answer.{Answer}
-use Rattle.canvas_cli.specs.declared.answer.Answer.TheVariants.{NotBuilt, Memory}
+use Rattle.canvas_cli.specs.declared.answer.Answer.TheVariants.{Refused, NotBuilt, Memory, Derived, Open, ManyCases}
 use Rattle.canvas_cli.specs.declared.command.Command.{Command}
 use Rattle.canvas_cli.specs.declared.command.Command.TheVariants.{Certify, Run}
+use Rattle.canvas_cli.specs.declared.command.Single.{Single}
+use Rattle.canvas_cli.specs.declared.command.Single.TheVariants.{Derive}
+use Rattle.canvas_cli.specs.declared.refusal.Refusal.TheVariants.{Broken}
+use Rattle.canvas_cli.specs.declared.specification.NoSpecification.{NoSpecification}
+use Rattle.canvas_cli.specs.declared.specification.NoSpecification.TheVariants as no
 use Rattle.client_model.specs.Program.{ClientForm, Program, program_of}
 use Rattle.cv_base.specs.declared.push.Memory as want
+use Rattle.easl_model.specs.CheckedForm.{form_of}
 use Rattle.easl_model.specs.Form.{Form}
-use Rattle.easl_model.specs.FormOf.{IsFormOf}
+use Rattle.easl_model.specs.Rules.{first_fault}
 use Rattle.easl_model.specs.declared.tree.Spec.{Spec}
-use Rattle.first_form.specs.FirstForm.{IsFirstForm}
+use Rattle.easl_parser.specs.Answers.{SpecAnswers}
 use Rattle.sole_main.specs.Reading.{IsNotRead, IsNotStraight, IsRead, IsReadStraight}
 
-by_verdict : (command : Command) (spec client : List ℕ) (form : Form) (a : Answer) → IsSpecification spec form → ClientVerdict command form client a → Decides command spec client a
-by_verdict command spec client form (NotBuilt Specification) is verdict = absurd verdict
-by_verdict command spec client form Memory is verdict = tt
-by_verdict command spec client form a is verdict = (form, is, verdict)
+-- the rule that the tree of a text breaks is what is wrong with the text
+pub breaks : (text : List ℕ) (tree : Spec) (f : NoSpecification) → SpecAnswers text (Ok tree) → Breaks tree f → Refuses text f
+breaks text tree (no.Refused (Broken rule place)) spells first = (tree, spells, first)
+breaks text tree (no.Refused refusal) spells first = absurd first
+breaks text tree no.Memory spells first = tt
 
-pub specified : (command : Command) (spec client : List ℕ) (form : Form) (a : Answer) → length spec ≤ 65536 → (tree : Spec) × IsFirstForm spec tree × IsFormOf tree form → ClientVerdict command form client a → Decides command spec client a
-specified command spec client form a few (tree, first, form_of) verdict =
-    by_verdict command spec client form a (record { few = few; tree = tree; first = first; form_of = form_of }) verdict
+pub checked : (text : List ℕ) (tree : Spec) (form : Form) → length text ≤ 65536 → SpecAnswers text (Ok tree) → first_fault tree ≡ None → form ≡ form_of tree → IsSpecification text form
+checked text tree form few spells well_formed form_is = record { tree = tree; is = record { few = few; spells = spells; well_formed = well_formed }; form_is = form_is }
 
-pub not_specified : (spec : List ℕ) → ((tree : Spec) → IsFirstForm spec tree → ⊥) → IsNoSpecification spec
-not_specified spec none form is = none is.tree is.first
+pub is_tree : (text : List ℕ) (tree : Spec) → length text ≤ 65536 → SpecAnswers text (Ok tree) → first_fault tree ≡ None → IsTree text tree
+is_tree text tree few spells well_formed = record { few = few; spells = spells; well_formed = well_formed }
+
+-- what is wrong with the specification decides
+pub refused : (command : Command) (spec client : List ℕ) (f : NoSpecification) (a : Answer) → Refuses spec f → AnswersFault f a → Decides command spec client a
+refused command spec client (no.Refused refusal) (Refused Specification line) is tells = (refusal, is, tells)
+refused command spec client (no.Refused refusal) Memory is tells = tt
+refused command spec client (no.Refused refusal) a is tells = absurd tells
+refused command spec client no.Memory Memory is tells = tt
+refused command spec client no.Memory a is tells = absurd tells
+
+pub not_answered : (single : Single) (text : List ℕ) (f : NoSpecification) (a : Answer) → Refuses text f → AnswersFault f a → DecidesOne single text a
+not_answered single text (no.Refused refusal) (Refused Specification line) is tells = (refusal, is, tells)
+not_answered single text (no.Refused refusal) Memory is tells = tt
+not_answered single text (no.Refused refusal) a is tells = absurd tells
+not_answered single text no.Memory Memory is tells = tt
+not_answered single text no.Memory a is tells = absurd tells
+
+-- what a checked specification closes with, or what stops it, is what its text decides
+pub derived : (text : List ℕ) (form : Form) (a : Answer) → IsSpecification text form → IsDerivation form a → DecidesOne Derive text a
+derived text form (Derived v) is found = (is.tree, is.is, subst (λ f. IsClosed f v.items) is.form_is found)
+derived text form (Open v) is found = (is.tree, is.is, subst (λ f. IsOpen f v.items) is.form_is found)
+derived text form (ManyCases v) is found = (is.tree, is.is, subst (λ f. HasManyCases f v.items) is.form_is found)
+derived text form Memory is found = tt
+derived text form a is found = absurd found
+
+-- what the client's text decides is the answer for both
+pub specified : (command : Command) (spec client : List ℕ) (form : Form) (a : Answer) → IsSpecification spec form → ClientVerdict command form client a → Decides command spec client a
+specified Certify spec client form (Refused Specification line) is (program, taken, answer) = absurd answer
+specified (Run choices) spec client form (Refused Specification line) is (program, taken, (o, run, told)) = absurd told
+specified command spec client form Memory is verdict = tt
+specified command spec client form a is verdict = (form, is, verdict)
 
 -- the answer for a checked client is what its text decides
 judged : (command : Command) (form : Form) (text : List ℕ) (p : Program) (a : Answer) → IsClient command form text p → IsAnswer command form p a → ClientVerdict command form text a
-judged Certify form text p (NotBuilt role) is answer = absurd answer
-judged (Run choices) form text p (NotBuilt role) is (o, run, told) = absurd told
+judged Certify form text p NotBuilt is answer = absurd answer
+judged (Run choices) form text p NotBuilt is (o, run, told) = absurd told
 judged command form text p Memory is answer = tt
 judged command form text p a is answer = (p, is, answer)
 

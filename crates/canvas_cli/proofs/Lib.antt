@@ -1,8 +1,13 @@
 pub mod Decided
+pub mod Derives
 pub mod Headlines
 pub mod Letters
 pub mod Loads
+pub mod Moved
 pub mod Names
 pub mod Outcomes
 pub mod Pairs
+pub mod Shows
+pub mod Told
+pub mod Trees
 pub mod Written

@@ -4,7 +4,8 @@ use Rattle.std.specs.Prelude.{Bool, Option, String}
 use Rattle.std.specs.declared.alloc.Global.{Global}
 use Rattle.cv_base.specs.Causes.{Appends}
 use Rattle.cv_base.specs.declared.status.Status.{Status}
-use Rattle.canvas_cli.proofs.Headlines.{IsWhole, writes_answer}
+use Rattle.canvas_cli.proofs.Headlines.{writes_answer}
+use Rattle.canvas_cli.proofs.Told.{IsWhole}
 use Rattle.canvas_cli.specs.Answers.{WritesAllowed}
 use Rattle.canvas_cli.specs.Headline.{RunsExactly, WritesOutcome}
 use Rattle.canvas_cli.specs.Verdicts.{Tells, most_units}

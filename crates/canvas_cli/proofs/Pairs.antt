@@ -1,5 +1,6 @@
 -- Two texts are one checked specification and one checked client, and so have one answer.
-use Rattle.std.proofs.Common.{◌≡◌, ℕ, List, [], subst, sym, ◌∙◌}
+use Rattle.std.proofs.Common.{◌≡◌, ℕ, List, [], ap, subst, sym, ◌∙◌}
+use Rattle.canvas_cli.proofs.Trees.{one_tree}
 use Rattle.canvas_cli.specs.Verdicts.{IsAlarm, IsAnswer, IsClient, IsPair, IsSpecification, IsTaken, NamesClause, Tells, most_units}
 use Rattle.canvas_cli.specs.declared.answer.Answer.{Answer}
 use Rattle.canvas_cli.specs.declared.answer.Answer.TheVariants.{Certified, Alarm, Ends, Short, Fails, Long}
@@ -11,31 +12,15 @@ use Rattle.client_model.specs.Statements.{Statements}
 use Rattle.client_run.proofs.SameRuns.{AreAlike, run_alike, safe_alike}
 use Rattle.client_run.specs.Run as runs
 use Rattle.client_run.specs.Run.{Outcome}
-use Rattle.easl_model.proofs.OneForm.{one_form}
+use Rattle.easl_model.specs.CheckedForm.{form_of}
 use Rattle.easl_model.specs.Form.{Form}
-use Rattle.easl_model.specs.FormOf.{IsFormOf}
-use Rattle.easl_model.specs.Rules as rules_of
-use Rattle.easl_model.specs.Rules.{IsWellFormed, NamesDiffer}
-use Rattle.easl_model.specs.declared.tree.Spec.{Spec}
-use Rattle.first_form.proofs.Refused.{tree_is}
-use Rattle.first_form.specs.FirstForm.{IsFirstForm}
 use Rattle.sole_main.proofs.Texts.{one_first_client, one_main_client}
 
-names_differ : (spec : Spec) → IsWellFormed spec → NamesDiffer spec
-names_differ spec well_formed = record {
-  headers = λ p fault. well_formed 1 rules_of.Duplicate p (rules_of.duplicate p fault);
-  locals = λ b p among fault. well_formed 2 rules_of.Duplicate p (rules_of.local_duplicate b p among fault);
-}
-
 -- a text has one checked form
-trees_one : (text : List ℕ) (x y : Spec) → IsFirstForm text x → IsFirstForm text y → x ≡ y
-trees_one text x y first second =
-    tree_is text x y first (second.spells.tokens, record { form = second.plain; tokens = second.spells.cut }, second.spells.shallow, second.spells.spelled)
-
 pub forms_one : (text : List ℕ) (f g : Form) → IsSpecification text f → IsSpecification text g → f ≡ g
 forms_one text f g first second =
-    let tree : first.tree ≡ second.tree = trees_one text first.tree second.tree first.first second.first in
-    one_form second.tree f g (names_differ second.tree second.first.well_formed) (subst (λ t. IsFormOf t f) tree first.form_of) second.form_of
+    let tree : first.tree ≡ second.tree = one_tree text first.tree second.tree first.is.spells second.is.spells in
+    first.form_is ∙ ap form_of tree ∙ sym second.form_is
 
 -- and a client's text, but for the way in which the shape is kept
 bodies_one : (command : Command) (form : Form) (text : List ℕ) (x y : Statements) → IsTaken command form text x → IsTaken command form text y → x ≡ y

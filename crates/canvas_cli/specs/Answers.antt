@@ -4,13 +4,14 @@ use Rattle.std.specs.declared.alloc.Global.{Global}
 use Rattle.cv_base.specs.Causes.{Appends, Begins}
 use Rattle.cv_base.specs.declared.status.Status.{Status}
 use Rattle.cv_base.specs.declared.status.Status.TheVariants as s
-use Rattle.canvas_cli.specs.Commands.{IsAsked, IsCommand}
+use Rattle.canvas_cli.specs.Commands.{IsAsked, IsCommand, Request, One, Pair}
+use Rattle.canvas_cli.specs.Refusals.{most_bytes}
 use Rattle.canvas_cli.specs.Texts.{status_of, text_of}
-use Rattle.canvas_cli.specs.Verdicts.{Decides, most_bytes}
+use Rattle.canvas_cli.specs.Verdicts.{Decides, DecidesOne}
 use Rattle.canvas_cli.specs.declared.answer.Role.{Role}
 use Rattle.canvas_cli.specs.declared.answer.Role.TheVariants.{Specification, Client}
 use Rattle.canvas_cli.specs.declared.answer.Answer.{Answer}
-use Rattle.canvas_cli.specs.declared.answer.Answer.TheVariants.{Usage, ReadFault, NotBuilt, Memory}
+use Rattle.canvas_cli.specs.declared.answer.Answer.TheVariants.{Usage, ReadFault, TooLong, NotBuilt, Memory}
 use Rattle.canvas_cli.specs.declared.command.Command.{Command}
 
 -- these bytes are the text of the role, as far as it is told, and within its limit
@@ -29,39 +30,48 @@ SpecificationLoaded held spec = (text : List ℕ) × IsLoaded Specification (hel
 abbrev pub ClientDecides : Command → List ℕ → Option (List ℕ) → Answer → Type 0
 ClientDecides command spec held answer = (text : List ℕ) × IsLoaded Client held text × Decides command spec text answer
 
--- what may be answered once the specification is loaded, by what is held under the client's name
+-- what may be answered to a command on a pair once the specification is loaded, by what is held under the client's name
 abbrev pub ClientAnswers : Command → List ℕ → Option (List ℕ) → Type 0 → Answer → Type 0
 ClientAnswers command spec held rose (ReadFault Specification) = ⊥
 ClientAnswers command spec held rose (ReadFault Client) = rose
-ClientAnswers command spec held rose (NotBuilt Client) = IsTooLong Client held ⊎ ClientDecides command spec held (NotBuilt Client)
+ClientAnswers command spec held rose NotBuilt = IsTooLong Client held ⊎ ClientDecides command spec held NotBuilt
 ClientAnswers command spec held rose Memory = Unit {0}
 ClientAnswers command spec held rose answer = ClientDecides command spec held answer
 
 -- the count of a text's name rose, and the texts named before it were loaded
-abbrev pub FailsToLoad : (List ℕ → Option (List ℕ)) → (List ℕ → Type 0) → List ℕ → List ℕ → Role → Type 0
-FailsToLoad held rose spec client Specification = rose spec
-FailsToLoad held rose spec client Client = SpecificationLoaded held spec × rose client
+abbrev pub FailsToLoad : (List ℕ → Option (List ℕ)) → (List ℕ → Type 0) → Request → Role → Type 0
+FailsToLoad held rose (One single spec) Specification = rose spec
+FailsToLoad held rose (One single spec) Client = ⊥
+FailsToLoad held rose (Pair command spec client) Specification = rose spec
+FailsToLoad held rose (Pair command spec client) Client = SpecificationLoaded held spec × rose client
 
 -- a text is longer than its limit, and the texts named before it were loaded
-abbrev pub IsLoadedTooLong : (List ℕ → Option (List ℕ)) → List ℕ → List ℕ → Role → Type 0
-IsLoadedTooLong held spec client Specification = IsTooLong Specification (held spec)
-IsLoadedTooLong held spec client Client = SpecificationLoaded held spec × IsTooLong Client (held client)
+abbrev pub IsLoadedTooLong : (List ℕ → Option (List ℕ)) → Request → Role → Type 0
+IsLoadedTooLong held (One single spec) Specification = IsTooLong Specification (held spec)
+IsLoadedTooLong held (One single spec) Client = ⊥
+IsLoadedTooLong held (Pair command spec client) Specification = IsTooLong Specification (held spec)
+IsLoadedTooLong held (Pair command spec client) Client = SpecificationLoaded held spec × IsTooLong Client (held client)
 
--- both texts were loaded, and they decide the answer
-abbrev pub TextsDecide : (List ℕ → Option (List ℕ)) → Command → List ℕ → List ℕ → Answer → Type 0
-TextsDecide held command spec client answer = (text : List ℕ) × IsLoaded Specification (held spec) text × ClientDecides command text (held client) answer
+-- all texts were loaded, and they decide the answer
+abbrev pub TextsDecide : (List ℕ → Option (List ℕ)) → Request → Answer → Type 0
+TextsDecide held (One single spec) answer = (text : List ℕ) × IsLoaded Specification (held spec) text × DecidesOne single text answer
+TextsDecide held (Pair command spec client) answer = (text : List ℕ) × IsLoaded Specification (held spec) text × ClientDecides command text (held client) answer
 
--- what may be answered to the command, by what is held under each name and whose counts rose
-abbrev pub MayAnswer : (List ℕ → Option (List ℕ)) → (List ℕ → Type 0) → Command → List ℕ → List ℕ → Answer → Type 0
-MayAnswer held rose command spec client (ReadFault role) = FailsToLoad held rose spec client role
-MayAnswer held rose command spec client (NotBuilt role) = IsLoadedTooLong held spec client role ⊎ TextsDecide held command spec client (NotBuilt role)
-MayAnswer held rose command spec client Memory = Unit {0}
-MayAnswer held rose command spec client answer = TextsDecide held command spec client answer
+-- What may be answered to the request, by what is held under each name and whose counts rose. The texts come first, in
+-- the order of the words, each with its load and its length; what is wrong in them, and the answer, follow. So far a
+-- client that is too long is not built in place of its limit.
+abbrev pub MayAnswer : (List ℕ → Option (List ℕ)) → (List ℕ → Type 0) → Request → Answer → Type 0
+MayAnswer held rose request (ReadFault role) = FailsToLoad held rose request role
+MayAnswer held rose request (TooLong Specification) = IsLoadedTooLong held request Specification
+MayAnswer held rose request (TooLong Client) = ⊥
+MayAnswer held rose request NotBuilt = IsLoadedTooLong held request Client ⊎ TextsDecide held request NotBuilt
+MayAnswer held rose request Memory = Unit {0}
+MayAnswer held rose request answer = TextsDecide held request answer
 
 -- an allowed answer to the words
 abbrev pub IsAllowed : (List ℕ → Option (List ℕ)) → (List ℕ → Type 0) → List (String Global) → Answer → Type 0
 IsAllowed held rose words Usage = IsCommand words → ⊥
-IsAllowed held rose words answer = (command : Command) × (spec client : List ℕ) × IsAsked words command spec client × MayAnswer held rose command spec client answer
+IsAllowed held rose words answer = (request : Request) × IsAsked words request × MayAnswer held rose request answer
 
 -- the text is taken whole, or the sink failed in it
 abbrev pub IsWritten : Option (List ℕ) → Option (List ℕ) → Type 0 → Answer → Status → Type 0
@@ -74,4 +84,4 @@ WritesAllowed held rose words old new failed status = (answer : Answer) × IsAll
 
 -- some text that the words name could not be loaded
 abbrev pub CouldNotLoad : (List ℕ → Option (List ℕ)) → (List ℕ → Type 0) → List (String Global) → Type 0
-CouldNotLoad held rose words = (command : Command) × (spec client : List ℕ) × (role : Role) × IsAsked words command spec client × FailsToLoad held rose spec client role
+CouldNotLoad held rose words = (request : Request) × (role : Role) × IsAsked words request × FailsToLoad held rose request role

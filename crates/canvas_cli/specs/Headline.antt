@@ -1,27 +1,46 @@
--- The headlines: certified exactly where no run breaks a clause, and the outcome of a run.
+-- The headlines: certified exactly where no run breaks a clause, the outcome of a run, the layout, how a specification closes; and where a text is refused.
 use Rattle.std.specs.Prelude.{◌≡◌, ◌≢◌, ℕ, ◌<◌, ◌≤◌, Bool, List, Option, Some, String, length, ◌⊎◌}
 use Rattle.std.specs.declared.alloc.Global.{Global}
 use Rattle.cv_base.specs.Causes.{Appends}
 use Rattle.cv_base.specs.declared.status.Status.{Status}
-use Rattle.cv_base.specs.declared.status.Status.TheVariants.{Alarm, Fine, Limit, Memory, NotBuilt, ReadFault, WriteFault}
-use Rattle.canvas_cli.specs.Commands.{IsAsked}
-use Rattle.canvas_cli.specs.Texts.{certified_text, ends_text, long_text, not_built_text, short_text}
-use Rattle.canvas_cli.specs.Verdicts.{IsAlarm, IsFailure, IsNoClient, IsNoSpecification, IsPair, IsSpecification, most_bytes, most_units}
+use Rattle.cv_base.specs.declared.status.Status.TheVariants.{Alarm, Fine, Limit, Memory, NotBuilt, Open, ReadFault, Refused, WriteFault}
+use Rattle.canvas_cli.specs.Answers.{IsLoaded}
+use Rattle.canvas_cli.specs.Commands.{IsAsked, Request, One, Pair, specification_of}
+use Rattle.canvas_cli.specs.Refusals.{IsRefusal, IsTree, most_bytes}
+use Rattle.canvas_cli.specs.Texts.{certified_text, ends_text, long_text, not_built_text, refusal_text, short_text, too_long_text}
+use Rattle.canvas_cli.specs.Verdicts.{HasManyCases, IsAlarm, IsClosed, IsFailure, IsNoClient, IsOpen, IsPair, IsSpecification, most_units}
 use Rattle.canvas_cli.specs.declared.answer.Role.{Role}
 use Rattle.canvas_cli.specs.declared.answer.Role.TheVariants.{Specification, Client}
 use Rattle.canvas_cli.specs.declared.command.Command.{Command}
 use Rattle.canvas_cli.specs.declared.command.Command.TheVariants.{Certify, Run}
+use Rattle.canvas_cli.specs.declared.command.Single.{Single}
+use Rattle.canvas_cli.specs.declared.command.Single.TheVariants.{Show, Derive}
+use Rattle.canvas_cli.specs.declared.refusal.Refusal.{Refusal}
 use Rattle.client_model.specs.Program.{Program}
 use Rattle.client_run.specs.Run.{Cut, Ends, Fails, IsRun, IsSafe, Outcome, Short}
+use Rattle.easl_model.specs.CheckedForm.{form_of}
 use Rattle.easl_model.specs.Form.{Form}
+use Rattle.easl_model.specs.declared.tree.Spec.{Spec}
+use Rattle.easl_print.specs.Lines.{spec_text}
 
 -- the words ask the command of two names, under which these two texts are held
 pub record AreHeld (held : List ℕ → Option (List ℕ)) (words : List (String Global)) (command : Command) (spec client : List ℕ) : Type 0 where
   pub spec_name : List ℕ
   pub client_name : List ℕ
-  pub words_are : IsAsked words command spec_name client_name
+  pub words_are : IsAsked words (Pair command spec_name client_name)
   pub spec_is : held spec_name ≡ Some spec
   pub client_is : held client_name ≡ Some client
+
+-- the words ask the command on the specification of a name alone, under which this text is held
+pub record IsHeld (held : List ℕ → Option (List ℕ)) (words : List (String Global)) (single : Single) (spec : List ℕ) : Type 0 where
+  pub spec_name : List ℕ
+  pub words_are : IsAsked words (One single spec_name)
+  pub spec_is : held spec_name ≡ Some spec
+
+-- the words ask the request, under whose specification's name this text is held
+pub record IsGiven (held : List ℕ → Option (List ℕ)) (words : List (String Global)) (request : Request) (spec : List ℕ) : Type 0 where
+  pub words_are : IsAsked words request
+  pub spec_is : held (specification_of request) ≡ Some spec
 
 -- nothing failed outside, and no memory was wanted
 pub record IsDone (status : Status) : Type 0 where
@@ -36,8 +55,8 @@ WritesCertified old new status = (status ≡ Fine) × Appends old new certified_
 abbrev pub WritesAlarm : Form → Program → Option (List ℕ) → Option (List ℕ) → Status → Type 0
 WritesAlarm form program old new status = (text : List ℕ) × IsAlarm form program text × (status ≡ Alarm) × Appends old new text
 
--- Where the texts are of the first forms: `certified` is written where no list of choices and no budget makes the run
--- break a clause. Else the alarm is, whose call and clause are those where the run on its choices fails.
+-- Where the specification is well-formed and the client of the first form: `certified` is written where no list of choices
+-- and no budget makes the run break a clause. Else the alarm is, whose call and clause are those where the run on its choices fails.
 abbrev pub Headline : (List ℕ → Option (List ℕ)) → List (String Global) → Option (List ℕ) → Option (List ℕ) → Status → Type 0
 Headline held words old new status = (spec client : List ℕ) (form : Form) (program : Program) → AreHeld held words Certify spec client → IsPair Certify spec client form program → IsDone status
     → (IsSafe form program × WritesCertified old new status) ⊎ ((IsSafe form program → ⊥) × WritesAlarm form program old new status)
@@ -54,16 +73,101 @@ abbrev pub RunsExactly : (List ℕ → Option (List ℕ)) → List (String Globa
 RunsExactly held words old new status = (spec client : List ℕ) (choices : List Bool) (form : Form) (program : Program) → AreHeld held words (Run choices) spec client → IsPair (Run choices) spec client form program → IsDone status
     → (o : Outcome) → IsRun form program choices most_units o → WritesOutcome form program o old new status
 
--- `not built` is written, with the text that is meant
-abbrev pub WritesNotBuilt : Role → Option (List ℕ) → Option (List ℕ) → Status → Type 0
-WritesNotBuilt role old new status = (status ≡ NotBuilt) × Appends old new (not_built_text role)
+-- the layout of the tree that the text spells is written
+abbrev pub ShowsExactly : (List ℕ → Option (List ℕ)) → List (String Global) → Option (List ℕ) → Option (List ℕ) → Status → Type 0
+ShowsExactly held words old new status = (spec : List ℕ) (tree : Spec) → IsHeld held words Show spec → IsTree spec tree → IsDone status → (status ≡ Fine) × Appends old new (spec_text tree)
 
--- `not built` is written exactly where a text is not of the form that the command takes; lengths are looked at first
+-- the text of the families, facts and updates with which the specification closes is written
+abbrev pub WritesClosed : Form → Option (List ℕ) → Option (List ℕ) → Status → Type 0
+WritesClosed form old new status = (text : List ℕ) × IsClosed form text × (status ≡ Fine) × Appends old new text
+
+-- the line of the question that stops it is
+abbrev pub WritesOpen : Form → Option (List ℕ) → Option (List ℕ) → Status → Type 0
+WritesOpen form old new status = (line : List ℕ) × IsOpen form line × (status ≡ Open) × Appends old new line
+
+abbrev pub WritesManyCases : Form → Option (List ℕ) → Option (List ℕ) → Status → Type 0
+WritesManyCases form old new status = (line : List ℕ) × HasManyCases form line × (status ≡ Limit) × Appends old new line
+
+-- one of these
+abbrev pub WritesDerivation : Form → Option (List ℕ) → Option (List ℕ) → Status → Type 0
+WritesDerivation form old new status = WritesClosed form old new status ⊎ (WritesOpen form old new status ⊎ WritesManyCases form old new status)
+
+-- Where a well-formed specification is to be derived, it closes, and the text of what it closes with is written; or it
+-- stops, and the line of the first question that stops it is written, with the status of the reason.
+abbrev pub DerivesExactly : (List ℕ → Option (List ℕ)) → List (String Global) → Option (List ℕ) → Option (List ℕ) → Status → Type 0
+DerivesExactly held words old new status = (spec : List ℕ) (tree : Spec) → IsHeld held words Derive spec → IsTree spec tree → IsDone status → WritesDerivation (form_of tree) old new status
+
+-- only a derivation is open, and its specification does not close for what is written
+abbrev pub StaysOpen : Request → List ℕ → Option (List ℕ) → Option (List ℕ) → Status → Type 0
+StaysOpen (One Show name) spec old new status = ⊥
+StaysOpen (One Derive name) spec old new status = (tree : Spec) × IsTree spec tree × WritesOpen (form_of tree) old new status
+StaysOpen (Pair command name client) spec old new status = ⊥
+
+abbrev pub OpensExactly : (List ℕ → Option (List ℕ)) → List (String Global) → Option (List ℕ) → Option (List ℕ) → Status → Type 0
+OpensExactly held words old new status = (request : Request) (spec : List ℕ) → IsGiven held words request spec → status ≡ Open → StaysOpen request spec old new status
+
+-- the text is told, and within its limit
+abbrev pub IsWithin : Role → Option (List ℕ) → Type 0
+IsWithin role held = (text : List ℕ) × (held ≡ Some text) × (length text ≤ most_bytes role)
+
+-- and so are all texts of the request
+abbrev pub AreWithin : (List ℕ → Option (List ℕ)) → Request → Type 0
+AreWithin held (One single spec) = IsWithin Specification (held spec)
+AreWithin held (Pair command spec client) = IsWithin Specification (held spec) × IsWithin Client (held client)
+
+-- the refusal of the specification is written
+abbrev pub WritesRefused : Refusal → Option (List ℕ) → Option (List ℕ) → Status → Type 0
+WritesRefused refusal old new status = (status ≡ Refused) × Appends old new (refusal_text Specification refusal)
+
+-- Where all texts are within their limits, a specification is refused for exactly what is first wrong with it, and where
+-- it spells no well-formed tree within the limits. Nothing else is refused.
+pub record NamesRefused (held : List ℕ → Option (List ℕ)) (request : Request) (spec : List ℕ) (old new : Option (List ℕ)) (status : Status) : Type 0 where
+  pub cause : AreWithin held request → (refusal : Refusal) → IsRefusal spec refusal → WritesRefused refusal old new status
+  pub no_tree : AreWithin held request → ((tree : Spec) → IsTree spec tree → ⊥) → status ≡ Refused
+  pub only : status ≡ Refused → (refusal : Refusal) × IsRefusal spec refusal × WritesRefused refusal old new status
+
+abbrev pub RefusedExactly : (List ℕ → Option (List ℕ)) → List (String Global) → Option (List ℕ) → Option (List ℕ) → Status → Type 0
+RefusedExactly held words old new status = (request : Request) (spec : List ℕ) → IsGiven held words request spec → IsDone status → NamesRefused held request spec old new status
+
+-- the run on the choices asks for one unit more than the limit
+pub record IsCut (held : Option (List ℕ)) (choices : List Bool) (spec : List ℕ) : Type 0 where
+  pub client : List ℕ
+  pub loaded : IsLoaded Client held client
+  pub form : Form
+  pub program : Program
+  pub pair : IsPair (Run choices) spec client form program
+  pub cut : IsRun form program choices most_units Cut
+
+-- a question of the specification has too many configurations
+pub record StopsByCases (spec : List ℕ) : Type 0 where
+  pub tree : Spec
+  pub is : IsTree spec tree
+  pub line : List ℕ
+  pub many : HasManyCases (form_of tree) line
+
+abbrev pub PassesLimit : (List ℕ → Option (List ℕ)) → Request → List ℕ → Type 0
+PassesLimit held (One Show name) spec = ⊥
+PassesLimit held (One Derive name) spec = StopsByCases spec
+PassesLimit held (Pair Certify name client) spec = ⊥
+PassesLimit held (Pair (Run choices) name client) spec = IsCut (held client) choices spec
+
+-- a limit is named exactly where the specification is longer than its limit, a question of a derivation has too many
+-- configurations, or a run would take one unit more
+pub record NamesLimit (held : List ℕ → Option (List ℕ)) (request : Request) (spec : List ℕ) (old new : Option (List ℕ)) (status : Status) : Type 0 where
+  pub cause : most_bytes Specification < length spec → (status ≡ Limit) × Appends old new (too_long_text Specification)
+  pub only : status ≡ Limit → (most_bytes Specification < length spec) ⊎ PassesLimit held request spec
+
+abbrev pub LimitsExactly : (List ℕ → Option (List ℕ)) → List (String Global) → Option (List ℕ) → Option (List ℕ) → Status → Type 0
+LimitsExactly held words old new status = (request : Request) (spec : List ℕ) → IsGiven held words request spec → IsDone status → NamesLimit held request spec old new status
+
+-- `not built client` is written
+abbrev pub WritesNotBuilt : Option (List ℕ) → Option (List ℕ) → Status → Type 0
+WritesNotBuilt old new status = (status ≡ NotBuilt) × Appends old new not_built_text
+
+-- and exactly where the client is not of the form that the command takes; lengths are looked at first, and then the specification
 pub record NamesNotBuilt (command : Command) (spec client : List ℕ) (old new : Option (List ℕ)) (status : Status) : Type 0 where
-  pub long_specification : most_bytes Specification < length spec → WritesNotBuilt Specification old new status
-  pub long_client : length spec ≤ most_bytes Specification → most_bytes Client < length client → WritesNotBuilt Client old new status
-  pub specification : length client ≤ most_bytes Client → IsNoSpecification spec → WritesNotBuilt Specification old new status
-  pub client_text : (form : Form) → IsSpecification spec form → IsNoClient command form client → WritesNotBuilt Client old new status
+  pub long_client : length spec ≤ most_bytes Specification → most_bytes Client < length client → WritesNotBuilt old new status
+  pub client_text : (form : Form) → IsSpecification spec form → IsNoClient command form client → WritesNotBuilt old new status
   pub built : (form : Form) (program : Program) → IsPair command spec client form program → status ≢ NotBuilt
 
 abbrev pub NotBuiltExactly : (List ℕ → Option (List ℕ)) → List (String Global) → Option (List ℕ) → Option (List ℕ) → Status → Type 0
@@ -74,7 +178,16 @@ abbrev pub IsAnswered : Command → Status → Type 0
 IsAnswered Certify status = (status ≡ Fine) ⊎ ((status ≡ Alarm) ⊎ (status ≡ Memory))
 IsAnswered (Run choices) status = (status ≡ Fine) ⊎ ((status ≡ Alarm) ⊎ ((status ≡ Limit) ⊎ (status ≡ Memory)))
 
--- where no count of a named text or of the sink rose, texts of the forms are answered
+-- where no count of a named text or of the sink rose, a well-formed specification with a client of the form is answered
 abbrev pub IsComplete : (List ℕ → Option (List ℕ)) → (List ℕ → Type 0) → Type 0 → List (String Global) → Status → Type 0
 IsComplete held rose failed words status = (command : Command) (spec client : List ℕ) (form : Form) (program : Program) → (texts : AreHeld held words command spec client) → IsPair command spec client form program
     → (rose texts.spec_name → ⊥) → (rose texts.client_name → ⊥) → (failed → ⊥) → IsAnswered command status
+
+-- and so it is where it is to be shown
+abbrev pub IsShown : (List ℕ → Option (List ℕ)) → (List ℕ → Type 0) → Type 0 → List (String Global) → Status → Type 0
+IsShown held rose failed words status = (spec : List ℕ) (tree : Spec) → (text : IsHeld held words Show spec) → IsTree spec tree → (rose text.spec_name → ⊥) → (failed → ⊥) → (status ≡ Fine) ⊎ (status ≡ Memory)
+
+-- or derived
+abbrev pub IsDerived : (List ℕ → Option (List ℕ)) → (List ℕ → Type 0) → Type 0 → List (String Global) → Status → Type 0
+IsDerived held rose failed words status = (spec : List ℕ) (tree : Spec) → (text : IsHeld held words Derive spec) → IsTree spec tree → (rose text.spec_name → ⊥) → (failed → ⊥)
+    → (status ≡ Fine) ⊎ ((status ≡ Open) ⊎ ((status ≡ Limit) ⊎ (status ≡ Memory)))

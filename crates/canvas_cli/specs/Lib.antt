@@ -1,5 +1,9 @@
 pub mod Answers
+pub mod Asking
 pub mod Commands
+pub mod Files
 pub mod Headline
+pub mod Readings
+pub mod Refusals
 pub mod Texts
 pub mod Verdicts

@@ -1,41 +1,43 @@
--- What two texts decide: whether the client is safe and where it fails, or how it runs.
+-- What the texts decide: the layout of a specification, how it closes, whether a client is safe and where it fails, or how it runs.
 use Rattle.std.specs.Prelude.{◌≡◌, ℕ, ◌≤◌, List, [], Some, length, slice_get}
-use Rattle.canvas_cli.specs.Texts.{alarm_text, clause_text, ends_text, fails_text}
-use Rattle.canvas_cli.specs.declared.answer.Role.{Role}
+use Rattle.canvas_cli.specs.Refusals.{IsRefused, IsTree, most_bytes}
+use Rattle.canvas_cli.specs.Texts.{alarm_text, cases_text, clause_text, ends_text, fails_text, open_text}
 use Rattle.canvas_cli.specs.declared.answer.Role.TheVariants.{Specification, Client}
 use Rattle.canvas_cli.specs.declared.answer.Answer.{Answer}
-use Rattle.canvas_cli.specs.declared.answer.Answer.TheVariants.{NotBuilt, Memory, Certified, Alarm, Ends, Short, Fails, Long}
+use Rattle.canvas_cli.specs.declared.answer.Answer.TheVariants.{Refused, NotBuilt, Memory, Shown, Derived, Open, ManyCases, Certified, Alarm, Ends, Short, Fails, Long}
 use Rattle.canvas_cli.specs.declared.command.Command.{Command}
 use Rattle.canvas_cli.specs.declared.command.Command.TheVariants.{Certify, Run}
+use Rattle.canvas_cli.specs.declared.command.Single.{Single}
+use Rattle.canvas_cli.specs.declared.command.Single.TheVariants.{Show, Derive}
 use Rattle.client_model.specs.Points.{IsProgramOf}
 use Rattle.client_model.specs.Program.{Program}
 use Rattle.client_model.specs.Statements.{Statements}
 use Rattle.client_model.specs.declared.form.CallSite.{CallSite}
 use Rattle.client_run.specs.Run as runs
 use Rattle.client_run.specs.Run.{IsRun, IsSafe, Outcome}
+use Rattle.derivation.specs.Closing.{Closes, Stops}
+use Rattle.derivation.specs.declared.derive_fault.DeriveFault.TheVariants as stop
+use Rattle.derivation.specs.declared.derive_fault.Reason.{Reason}
+use Rattle.easl_model.specs.CheckedForm.{form_of}
 use Rattle.easl_model.specs.Form.{Form}
-use Rattle.easl_model.specs.FormOf.{IsFormOf}
 use Rattle.easl_model.specs.declared.form.ClassForm.{ClassForm}
 use Rattle.easl_model.specs.declared.form.Method.{Method}
 use Rattle.easl_model.specs.declared.tree.Spec.{Spec}
-use Rattle.first_form.specs.FirstForm.{IsFirstForm}
+use Rattle.easl_print.specs.Lines.{spec_text}
+use Rattle.method_abstraction.specs.Texts.{abstraction_text}
+use Rattle.method_abstraction.specs.declared.entry.Abstraction.{Abstraction}
+use Rattle.method_abstraction.specs.declared.entry.Question.{Question}
 use Rattle.sole_main.specs.MainClient.{IsFirstClient, IsMainClient}
-
--- how many bytes a text may have
-abbrev pub most_bytes : Role → ℕ
-most_bytes Specification = 65536
-most_bytes Client = 1048576
 
 -- how many units a run may take
 abbrev pub most_units : ℕ
 most_units = 10000000
 
--- the specification is of the first form, and this is its checked form
+-- the text is a specification, and this is its checked form
 pub record IsSpecification (text : List ℕ) (form : Form) : Type 0 where
-  pub few : length text ≤ most_bytes Specification
   pub tree : Spec
-  pub first : IsFirstForm text tree
-  pub form_of : IsFormOf tree form
+  pub is : IsTree text tree
+  pub form_is : form ≡ form_of tree
 
 -- the client is of the form that the command takes, and these are the statements of its `main`
 abbrev pub IsTaken : Command → Form → List ℕ → Statements → Type 0
@@ -62,7 +64,7 @@ pub record NamesClause (form : Form) (calls : List CallSite) (call clause : ℕ)
   pub site_at : slice_get calls call ≡ Some site
   pub method_at : slice_get form.methods site.method ≡ Some method
   pub class_at : slice_get form.classes method.class ≡ Some class
-  pub is : text ≡ clause_text site.place class.name method.name clause
+  pub is : text ≡ clause_text site.place class.name method clause
 
 -- the run on no choices fails at the alarm's call and clause
 pub record IsAlarm (form : Form) (program : Program) (text : List ℕ) : Type 0 where
@@ -95,23 +97,51 @@ IsAnswer Certify form program (Alarm text) = IsAlarm form program text.items
 IsAnswer Certify form program answer = ⊥
 IsAnswer (Run choices) form program answer = (o : Outcome) × IsRun form program choices most_units o × Tells form program answer o
 
--- the text is not of the first form of specifications
-abbrev pub IsNoSpecification : List ℕ → Type 0
-IsNoSpecification text = (form : Form) → IsSpecification text form → ⊥
-
 -- the text is no client of the form that the command takes
 abbrev pub IsNoClient : Command → Form → List ℕ → Type 0
 IsNoClient command form text = (program : Program) → IsClient command form text program → ⊥
 
 -- what the text of a client decides, the specification being read
 abbrev pub ClientVerdict : Command → Form → List ℕ → Answer → Type 0
-ClientVerdict command form client (NotBuilt Specification) = ⊥
-ClientVerdict command form client (NotBuilt Client) = IsNoClient command form client
+ClientVerdict command form client NotBuilt = IsNoClient command form client
 ClientVerdict command form client Memory = Unit {0}
 ClientVerdict command form client answer = (program : Program) × IsClient command form client program × IsAnswer command form program answer
 
 -- what the texts of a specification and a client decide
 abbrev pub Decides : Command → List ℕ → List ℕ → Answer → Type 0
-Decides command spec client (NotBuilt Specification) = IsNoSpecification spec
+Decides command spec client (Refused Specification line) = IsRefused spec line.items
 Decides command spec client Memory = Unit {0}
 Decides command spec client answer = (form : Form) × IsSpecification spec form × ClientVerdict command form client answer
+
+-- the specification closes, and this is the text of families, facts and updates with which it closes
+pub record IsClosed (form : Form) (text : List ℕ) : Type 0 where
+  pub abstraction : Abstraction
+  pub closes : Closes form abstraction
+  pub is : text ≡ abstraction_text form abstraction
+
+-- it does not close, and this line names why and the first question that stops it
+pub record IsOpen (form : Form) (line : List ℕ) : Type 0 where
+  pub reason : Reason
+  pub question : Question
+  pub stops : Stops form (stop.Open reason question)
+  pub is : line ≡ open_text form reason question
+
+-- a question has too many configurations before any other stops it, and this line names the question
+pub record HasManyCases (form : Form) (line : List ℕ) : Type 0 where
+  pub question : Question
+  pub stops : Stops form (stop.Cases question)
+  pub is : line ≡ cases_text form question
+
+-- what is answered to the command on the tree of a specification alone
+abbrev pub AnswersOne : Answer → Single → Spec → Type 0
+AnswersOne (Shown layout) Show tree = layout.items ≡ spec_text tree
+AnswersOne (Derived text) Derive tree = IsClosed (form_of tree) text.items
+AnswersOne (Open line) Derive tree = IsOpen (form_of tree) line.items
+AnswersOne (ManyCases line) Derive tree = HasManyCases (form_of tree) line.items
+AnswersOne answer single tree = ⊥
+
+-- what the text of a specification alone decides
+abbrev pub DecidesOne : Single → List ℕ → Answer → Type 0
+DecidesOne single text (Refused Specification line) = IsRefused text line.items
+DecidesOne single text Memory = Unit {0}
+DecidesOne single text answer = (tree : Spec) × IsTree text tree × AnswersOne answer single tree

@@ -1,6 +1,6 @@
 //! What a command answers, and the text and the status of each answer.
 ghost use Rattle.std.specs.Prelude.{◌≡◌};
-ghost use Rattle.canvas_cli.specs.Texts.{status_of, text_of, read_fault_text, not_built_text};
+ghost use Rattle.canvas_cli.specs.Texts.{status_of, text_of, read_fault_text, role_text, too_long_text};
 
 use cv_base::Status;
 
@@ -11,6 +11,17 @@ pub enum Role {
     Client,
 }
 
+impl Role {
+    pub(crate) fn name(self) -> &'static [u8]
+        ensures { result.now ≡ role_text self }
+    {
+        match self {
+            Role::Specification => b"specification",
+            Role::Client => b"client",
+        }
+    }
+}
+
 /// What a command answers before it is written.
 #[derive(Debug, Drop)]
 pub enum Answer {
@@ -18,10 +29,22 @@ pub enum Answer {
     Usage,
     /// The text could not be loaded.
     ReadFault(Role),
-    /// The text is not of the form that the command takes so far.
-    NotBuilt(Role),
+    /// The text is longer than its limit.
+    TooLong(Role),
+    /// Something is wrong with the text: the line that says what, and where.
+    Refused(Role, Vec<u8>),
+    /// The client is not of the form that the command takes so far.
+    NotBuilt,
     /// Memory was wanted and not found.
     Memory,
+    /// The specification in its canonical layout.
+    Shown(Vec<u8>),
+    /// The families, facts and updates with which the specification closes.
+    Derived(Vec<u8>),
+    /// The specification does not close: the line of why, and of the first question that stops it.
+    Open(Vec<u8>),
+    /// A question of the derivation has too many configurations: the line of it.
+    ManyCases(Vec<u8>),
     /// The client breaks no clause.
     Certified,
     /// The client breaks a clause: the text of the alarm.
@@ -46,8 +69,14 @@ impl Answer {
         match self {
             Answer::Usage => Status::Usage,
             Answer::ReadFault(_) => Status::ReadFault,
-            Answer::NotBuilt(_) => Status::NotBuilt,
+            Answer::TooLong(_) => Status::Limit,
+            Answer::Refused(_, _) => Status::Refused,
+            Answer::NotBuilt => Status::NotBuilt,
             Answer::Memory => Status::Memory,
+            Answer::Shown(_) => Status::Fine,
+            Answer::Derived(_) => Status::Fine,
+            Answer::Open(_) => Status::Open,
+            Answer::ManyCases(_) => Status::Limit,
             Answer::Certified => Status::Fine,
             Answer::Alarm(_) => Status::Alarm,
             Answer::Ends(_) => Status::Fine,
@@ -64,8 +93,14 @@ impl Answer {
         match self {
             Answer::Usage => USAGE,
             Answer::ReadFault(role) => read_fault_line(*role),
-            Answer::NotBuilt(role) => not_built_line(*role),
+            Answer::TooLong(role) => too_long_line(*role),
+            Answer::Refused(_, line) => line.as_slice(),
+            Answer::NotBuilt => b"not built client\n",
             Answer::Memory => b"memory\n",
+            Answer::Shown(layout) => layout.as_slice(),
+            Answer::Derived(text) => text.as_slice(),
+            Answer::Open(line) => line.as_slice(),
+            Answer::ManyCases(line) => line.as_slice(),
             Answer::Certified => b"certified\n",
             Answer::Alarm(text) => text.as_slice(),
             Answer::Ends(text) => text.as_slice(),
@@ -85,11 +120,11 @@ fn read_fault_line(role: Role) -> &'static [u8]
     }
 }
 
-fn not_built_line(role: Role) -> &'static [u8]
-    ensures { result.now ≡ not_built_text role }
+fn too_long_line(role: Role) -> &'static [u8]
+    ensures { result.now ≡ too_long_text role }
 {
     match role {
-        Role::Specification => b"not built specification\n",
-        Role::Client => b"not built client\n",
+        Role::Specification => b"limit specification bytes 65536\n",
+        Role::Client => b"limit client bytes 1048576\n",
     }
 }

@@ -5,7 +5,7 @@ ghost use Rattle.client_model.specs.Program.{program_of};
 ghost use Rattle.client_run.specs.Run.{Fails, IsRun};
 ghost use Rattle.client_run.specs.Straight.{CallFits, IsStraight};
 
-use crate::answer::{Answer, Role};
+use crate::answer::Answer;
 use crate::command::Command;
 use crate::lines::{alarm_lines, clause_of};
 use client_model::CheckedClient;
@@ -23,7 +23,7 @@ pub(crate) fn certify(alloc: Global, spec: &CheckedSpec, text: &[u8]) -> Result<
 {
     match read_straight(alloc, spec, text) {
         Ok(client) => verdict(alloc, spec, &client),
-        Err(MainFault::NotBuilt) => Ok(Answer::NotBuilt(Role::Client)),
+        Err(MainFault::NotBuilt) => Ok(Answer::NotBuilt),
         Err(MainFault::Memory) => Err(Memory),
     }
 }

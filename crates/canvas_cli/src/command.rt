@@ -1,6 +1,8 @@
 //! What the words of a command line ask.
 ghost use Rattle.std.specs.Prelude.{◌≡◌, ◌∷◌, [], ◌↔◌, ◌⊎◌, ◌==◌, ℕ, Bool, EachIndex, IfOk, IsErrOf, IsTrue, List, MatchOption, codes, map, slice_index};
-ghost use Rattle.canvas_cli.specs.Commands.{AreWords, IsAsked, IsCommand, letters};
+ghost use Rattle.canvas_cli.specs.Asking.{request_of};
+ghost use Rattle.canvas_cli.specs.Commands.{AreWords, IsAsked, IsCommand, One, Pair, letters};
+ghost use Rattle.canvas_cli.specs.declared.command.Single as singles;
 
 use cv_base::Memory;
 use sqlite_items::Items;
@@ -15,18 +17,43 @@ pub enum Command {
     Run(Items<bool>),
 }
 
-/// A command, and the names of its two texts.
-#[derive(Debug, Drop)]
-pub(crate) struct Asked<'a> {
-    pub(crate) command: Command,
-    pub(crate) spec: &'a str,
-    pub(crate) client: &'a str,
+/// What is asked of a specification alone.
+#[derive(Clone, Copy, Debug, PartialEq, Eq)]
+pub enum Single {
+    /// Its canonical layout.
+    Show,
+    /// The families, facts and updates with which it closes.
+    Derive,
 }
 
-/// Why there is no command.
+/// A command on the specification of this name alone.
+#[derive(Debug, Drop)]
+pub struct AskedOne<'a> {
+    pub single: Single,
+    pub spec: &'a str,
+}
+
+/// A command on the specification and the client of these names.
+#[derive(Debug, Drop)]
+pub struct AskedPair<'a> {
+    pub command: Command,
+    pub spec: &'a str,
+    pub client: &'a str,
+}
+
+/// What is asked, and the names of its texts.
+#[derive(Debug, Drop)]
+pub enum Asked<'a> {
+    /// A command on one text.
+    One(AskedOne<'a>),
+    /// A command on two texts.
+    Pair(AskedPair<'a>),
+}
+
+/// Why nothing is asked.
 #[derive(Clone, Copy, Debug, PartialEq, Eq)]
 pub(crate) enum NoCommand {
-    /// The words ask none.
+    /// The words ask nothing.
     Usage,
     /// Memory was wanted for it and not found.
     Memory,
@@ -34,24 +61,58 @@ pub(crate) enum NoCommand {
 
 /// What the words ask.
 pub(crate) fn read_words<'a>(alloc: Global, words: &'a [String]) -> Result<Asked<'a>, NoCommand>
-    ensures command { IfOk result (λ a. IsAsked words.now a.command a.spec.now a.client.now) }
+    ensures command { IfOk result (λ a. IsAsked words.now (request_of a)) }
+    ensures usage { IsErrOf result NoCommand.Usage → IsCommand words.now → ⊥ }
+    ensures memory { IsErrOf result NoCommand.Memory → IsCommand words.now }
+{
+    match show_words(words) {
+        Some(spec) => Ok(Asked::One(AskedOne {
+            single: Single::Show,
+            spec,
+        })),
+        None => read_derive(alloc, words),
+    }
+}
+
+/// What the words ask, which do not ask to show.
+#[tactic(auto, using(crate::proofs::Letters::no_single))]
+fn read_derive<'a>(alloc: Global, words: &'a [String]) -> Result<Asked<'a>, NoCommand>
+    requires { (spec : List ℕ) → IsAsked words.now (One Single.Show spec) → ⊥ }
+    ensures command { IfOk result (λ a. IsAsked words.now (request_of a)) }
+    ensures usage { IsErrOf result NoCommand.Usage → IsCommand words.now → ⊥ }
+    ensures memory { IsErrOf result NoCommand.Memory → IsCommand words.now }
+{
+    match derive_words(words) {
+        Some(spec) => Ok(Asked::One(AskedOne {
+            single: Single::Derive,
+            spec,
+        })),
+        None => read_pair(alloc, words),
+    }
+}
+
+/// The command on a pair that the words ask, which ask nothing of one text.
+fn read_pair<'a>(alloc: Global, words: &'a [String]) -> Result<Asked<'a>, NoCommand>
+    requires { (single : singles.Single) (spec : List ℕ) → IsAsked words.now (One single spec) → ⊥ }
+    ensures command { IfOk result (λ a. IsAsked words.now (request_of a)) }
     ensures usage { IsErrOf result NoCommand.Usage → IsCommand words.now → ⊥ }
     ensures memory { IsErrOf result NoCommand.Memory → IsCommand words.now }
 {
     match certify_words(words) {
-        Some((spec, client)) => Ok(Asked {
+        Some((spec, client)) => Ok(Asked::Pair(AskedPair {
             command: Command::Certify,
             spec,
             client,
-        }),
+        })),
         None => read_run(alloc, words),
     }
 }
 
-/// The run that the words ask, which do not ask to certify.
+/// The run that the words ask, which ask nothing of one text, and not to certify.
 fn read_run<'a>(alloc: Global, words: &'a [String]) -> Result<Asked<'a>, NoCommand>
-    requires { (spec client : List ℕ) → IsAsked words.now Command.Certify spec client → ⊥ }
-    ensures command { IfOk result (λ a. IsAsked words.now a.command a.spec.now a.client.now) }
+    requires one { (single : singles.Single) (spec : List ℕ) → IsAsked words.now (One single spec) → ⊥ }
+    requires certify { (spec client : List ℕ) → IsAsked words.now (Pair Command.Certify spec client) → ⊥ }
+    ensures command { IfOk result (λ a. IsAsked words.now (request_of a)) }
     ensures usage { IsErrOf result NoCommand.Usage → IsCommand words.now → ⊥ }
     ensures memory { IsErrOf result NoCommand.Memory → IsCommand words.now }
 {
@@ -62,12 +123,46 @@ fn read_run<'a>(alloc: Global, words: &'a [String]) -> Result<Asked<'a>, NoComma
         return Err(NoCommand::Usage);
     }
     match choices_of(alloc, choices.as_bytes()) {
-        Ok(choices) => Ok(Asked {
+        Ok(choices) => Ok(Asked::Pair(AskedPair {
             command: Command::Run(choices),
             spec,
             client,
-        }),
+        })),
         Err(Memory) => Err(NoCommand::Memory),
+    }
+}
+
+/// The word behind `show`.
+fn show_words(words: &[String]) -> Option<&str>
+    ensures { MatchOption result ((spec : List ℕ) → AreWords words.now (codes "show" ∷ spec ∷ []) → ⊥)
+        (λ name. AreWords words.now (codes "show" ∷ name.now ∷ [])) }
+{
+    match words {
+        [command, spec] => {
+            if command.as_str() == "show" {
+                Some(spec.as_str())
+            } else {
+                None
+            }
+        }
+        _ => None,
+    }
+}
+
+/// The word behind `derive`.
+fn derive_words(words: &[String]) -> Option<&str>
+    ensures { MatchOption result ((spec : List ℕ) → AreWords words.now (codes "derive" ∷ spec ∷ []) → ⊥)
+        (λ name. AreWords words.now (codes "derive" ∷ name.now ∷ [])) }
+{
+    match words {
+        [command, spec] => {
+            if command.as_str() == "derive" {
+                Some(spec.as_str())
+            } else {
+                None
+            }
+        }
+        _ => None,
     }
 }
 

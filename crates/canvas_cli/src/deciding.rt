@@ -1,18 +1,31 @@
-//! What the texts of a specification and a client decide.
+//! What the text of a specification decides alone, or with that of a client.
 ghost use Rattle.std.specs.Prelude.{◌≤◌, IfOk, length};
-ghost use Rattle.canvas_cli.specs.Verdicts.{ClientVerdict, Decides};
+ghost use Rattle.canvas_cli.specs.Verdicts.{ClientVerdict, Decides, DecidesOne};
 
-use crate::answer::{Answer, Role};
+use crate::answer::Answer;
 use crate::certifying::certify;
-use crate::command::Command;
+use crate::closing::derive_text;
+use crate::command::{Command, Single};
 use crate::running::run_client;
+use crate::showing::show;
+use crate::specification::{read_checked, refuse};
 use cv_base::Memory;
 use easl_model::CheckedSpec;
-use first_form::{FormFault, read_specification};
 use std::alloc::Global;
 
+/// The answer to the command on a specification alone.
+pub(crate) fn decide_one(alloc: Global, single: Single, text: &[u8]) -> Answer
+    requires { length text.now ≤ 65536 }
+    ensures { DecidesOne single text.now result }
+{
+    match single {
+        Single::Show => show(alloc, text),
+        Single::Derive => derive_text(alloc, text),
+    }
+}
+
 /// The answer to the command by the two texts.
-#[tactic(auto, using(crate::proofs::Decided::specified))]
+#[tactic(auto, using(crate::proofs::Decided::specified, crate::proofs::Decided::refused))]
 pub(crate) fn decide(
     alloc: Global,
     command: &Command,
@@ -23,10 +36,9 @@ pub(crate) fn decide(
     requires client { length client_text.now ≤ 1048576 }
     ensures { Decides command.now specification_text.now client_text.now result }
 {
-    match read_specification(alloc, specification_text) {
+    match read_checked(alloc, specification_text) {
         Ok(spec) => decide_client(alloc, command, &spec, client_text),
-        Err(FormFault::NotBuilt) => Answer::NotBuilt(Role::Specification),
-        Err(FormFault::Memory) => Answer::Memory,
+        Err(fault) => refuse(alloc, fault),
     }
 }
 

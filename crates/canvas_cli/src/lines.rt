@@ -1,12 +1,13 @@
 //! The lines that name a clause, and the line of a run that ends.
 ghost use Rattle.std.specs.Prelude.{◌≡◌, ◌<◌, ◌++◌, All, IfOk, OnOk, encode_utf8_all, length};
-ghost use Rattle.canvas_cli.specs.Texts.{alarm_text, clause_text, ends_text, fails_text};
+ghost use Rattle.canvas_cli.specs.Texts.{alarm_text, clause_text, ends_text, fails_text, method_text};
 ghost use Rattle.canvas_cli.specs.Verdicts.{NamesClause};
 ghost use Rattle.client_run.specs.Straight.{CallFits};
 
+use crate::refusal::push_place;
 use client_model::CheckedClient;
 use cv_base::{Memory, push_bytes, push_number};
-use easl_model::{CheckedSpec, Name, Place};
+use easl_model::{CheckedSpec, Method, Name, Place};
 use std::alloc::Global;
 
 /// The line of an alarm at the clause, and of its path, which takes no test.
@@ -59,8 +60,7 @@ pub(crate) fn clause_of(
     let site = client.call(call);
     let method = spec.method(site.method);
     let class = spec.class_name(method.class);
-    let text = clause_line(alloc, site.place, class, &method.name, clause)?;
-    Ok(text)
+    clause_line(alloc, site.place, class, method, clause)
 }
 
 /// The text of a clause of the call at this place, of a class's method.
@@ -68,22 +68,31 @@ fn clause_line(
     alloc: Global,
     place: Place,
     class: &Name,
-    method: &Name,
+    method: &Method,
     clause: u32,
 ) -> Result<Vec<u8>, Memory>
     ensures { IfOk result (λ v. v.items ≡ clause_text place class.now method.now clause) }
 {
     let mut out = Vec::new(alloc);
-    push_number(&mut out, u64::from(place.line))?;
-    push_bytes(&mut out, b":")?;
-    push_number(&mut out, u64::from(place.col))?;
+    push_place(&mut out, place)?;
     push_bytes(&mut out, b" ")?;
-    push_name(&mut out, class)?;
-    push_bytes(&mut out, b".")?;
-    push_name(&mut out, method)?;
+    push_method(&mut out, class, method)?;
     push_bytes(&mut out, b" ")?;
     push_number(&mut out, u64::from(clause))?;
     Ok(out)
+}
+
+/// A method or constructor of the class of this name.
+pub(crate) fn push_method(out: &mut Vec<u8>, class: &Name, method: &Method) -> Result<(), Memory>
+    ensures { OnOk result (out.new.items ≡ out.old.items ++ method_text class.now method.now) }
+{
+    push_name(out, class)?;
+    push_bytes(out, b".")?;
+    if method.constructor {
+        push_bytes(out, b"new")
+    } else {
+        push_name(out, &method.name)
+    }
 }
 
 #[tactic(auto, using(crate::proofs::Names::spelled))]

@@ -2,7 +2,7 @@
 ghost use Rattle.std.specs.Prelude.{◌≡◌, ◌<◌, ◌≤◌, ℕ, List, IfOk, IsErrOf};
 ghost use Rattle.cv_base.specs.Causes.{Rose};
 ghost use Rattle.canvas_cli.specs.Answers.{IsLoaded, IsTooLong};
-ghost use Rattle.canvas_cli.specs.Verdicts as limits;
+ghost use Rattle.canvas_cli.specs.Refusals as limits;
 
 use crate::answer::Role;
 use cv_base::{LoadFault, Shelf};

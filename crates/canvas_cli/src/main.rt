@@ -1,15 +1,20 @@
-//! `canvas`: certifies clients of Easl specifications, and runs them on chosen test outcomes.
+//! `canvas`: shows Easl specifications, derives what their calls need, certifies their clients, and runs them on chosen test outcomes.
 #![tactic(auto)]
 
 mod answer;
 mod canvas;
 mod certifying;
+mod closing;
 mod command;
 mod deciding;
 mod disk_shelf;
 mod lines;
 mod loading;
+mod questions;
+mod refusal;
 mod running;
+mod showing;
+mod specification;
 mod std_sink;
 #[cfg(test)]
 mod tests;

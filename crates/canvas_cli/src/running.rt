@@ -6,7 +6,7 @@ ghost use Rattle.client_run.specs.Answers.{HasCall, outcome_told};
 ghost use Rattle.client_run.specs.Run.{Cut, Fails, IsRun};
 ghost use Rattle.client_run.specs.Straight.{CallFits};
 
-use crate::answer::{Answer, Role};
+use crate::answer::Answer;
 use crate::command::Command;
 use crate::lines::{clause_of, ends_line, fails_line};
 use client_model::CheckedClient;
@@ -29,7 +29,7 @@ pub(crate) fn run_client(
 {
     match read_main(alloc, spec, text) {
         Ok(client) => run_checked(alloc, spec, &client, choices),
-        Err(MainFault::NotBuilt) => Ok(Answer::NotBuilt(Role::Client)),
+        Err(MainFault::NotBuilt) => Ok(Answer::NotBuilt),
         Err(MainFault::Memory) => Err(Memory),
     }
 }

@@ -1,5 +1,6 @@
 //! Standard output as a sink.
-ghost use Rattle.std.specs.Prelude.{◌≡◌};
+ghost use Rattle.std.specs.Prelude.{◌≡◌, ◌<◌, ◌≤◌, IfOk, length, take};
+ghost use Rattle.std.specs.Io.KnownBytes.{Appends};
 
 use cv_base::{Sink, SinkFault};
 use std::io;
@@ -29,12 +30,25 @@ impl<R: Print> Sink for StdSink<'_, R> {
 
     fn write(&mut self, piece: &[u8]) -> Result<usize, SinkFault> {
         let mut out = io::writer(self.to);
-        if let Ok(count) = out.write(piece) {
-            if count > 0 && out.flush().is_ok() {
-                return Ok(count);
-            }
+        let written = write_once(&mut out, piece);
+        if written.is_err() {
+            self.faults = self.faults.saturating_add(1);
         }
-        self.faults = self.faults.saturating_add(1);
+        written
+    }
+}
+
+/// Writes once, and flushes. What is taken is a beginning of the piece that is not empty.
+fn write_once<W: Write>(out: &mut W, piece: &[u8]) -> Result<usize, SinkFault>
+    ensures some { IfOk result (λ n. (0 < n) × (n ≤ length piece.now)) }
+    ensures took { IfOk result (λ n. Appends (W.contents out.old) (W.contents out.new) (take n piece.now)) }
+{
+    let Ok(count) = out.write(piece) else {
+        return Err(SinkFault);
+    };
+    if count > 0 && out.flush().is_ok() {
+        Ok(count)
+    } else {
         Err(SinkFault)
     }
 }

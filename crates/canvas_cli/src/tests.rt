@@ -1,3 +1,4 @@
+//! What the top call answers and writes.
 use crate::canvas::canvas;
 use crate::disk_shelf::DiskShelf;
 use crate::std_sink::StdSink;
@@ -67,6 +68,34 @@ const LOOPING: &[u8] = b"void main() {
 ";
 
 const ENDLESS: &[u8] = b"void main() { while (?) { } }";
+
+const LOCK: &[u8] = b"class Lock {
+  Key held;
+  Key none;
+  Lock() { none = new Key(); held = none; }
+  void take() { requires held == none || none != none; Key fresh = new Key(); held = fresh; }
+  void drop() { requires held != none && (held == held); if (held != none) { held = none; } else { held = held; } }
+}
+class Key { }
+";
+
+const LOCKED: &[u8] = b"void main() {
+  Lock l = new Lock();
+  l.take();
+  l.drop();
+  l.take();
+}
+";
+
+const UNLOCKED_TWICE: &[u8] = b"void main() {
+  Lock l = new Lock();
+  l.take();
+  l.drop();
+  l.take();
+  l.drop();
+  l.drop();
+}
+";
 
 const UNKNOWN: &[u8] = b"void main() {
   if (?) { i.next(); }
@@ -180,8 +209,20 @@ fn answers_of_certify(rt: HostRuntime) -> Result<(), Fail> {
         },
         Case {
             specification: b"",
-            written: b"not built specification\n",
-            status: Status::NotBuilt,
+            written: b"refused specification E3 1:1\n",
+            status: Status::Refused,
+            ..PLAIN
+        },
+        Case {
+            specification: LOCK,
+            client: LOCKED,
+            ..PLAIN
+        },
+        Case {
+            specification: LOCK,
+            client: UNLOCKED_TWICE,
+            written: b"alarm 7:3 Lock.drop 1\n0 main:\n",
+            status: Status::Alarm,
             ..PLAIN
         },
         Case {
@@ -283,9 +324,9 @@ fn answers_without_a_run(rt: HostRuntime) -> Result<(), Fail> {
             ..RUN
         },
         Case {
-            specification: b"",
-            written: b"not built specification\n",
-            status: Status::NotBuilt,
+            specification: b"class A { B b; }",
+            written: b"refused specification S2 1:11\n",
+            status: Status::Refused,
             ..RUN
         },
         Case {
@@ -299,6 +340,240 @@ fn answers_without_a_run(rt: HostRuntime) -> Result<(), Fail> {
         let (status, taken) = outcome(rt.alloc(), case)?;
         assert_eq!(rt; taken.as_slice(), case.written);
         assert_eq!(rt; status, case.status);
+    }
+    Ok(())
+}
+
+const PARENTHESES_LEFT_OUT: &[u8] = b"class A {
+  void m(A a) {
+    requires a == a;
+  }
+}
+";
+
+const CHAIN: &[u8] = b"class C0 { }
+class C1 { C1() { C0 a = new C0(); C0 b = new C0(); } }
+class C2 { C2() { C1 a = new C1(); C1 b = new C1(); } }
+class C3 { C3() { C2 a = new C2(); C2 b = new C2(); } }
+class C4 { C4() { C3 a = new C3(); C3 b = new C3(); } }
+class C5 { C5() { C4 a = new C4(); C4 b = new C4(); } }
+class C6 { C6() { C5 a = new C5(); C5 b = new C5(); } }
+class C7 { C7() { C6 a = new C6(); C6 b = new C6(); } }
+class C8 { C8() { C7 a = new C7(); C7 b = new C7(); } }
+class C9 { C9() { C8 a = new C8(); C8 b = new C8(); } }
+class C10 { C10() { C9 a = new C9(); C9 b = new C9(); } }
+";
+
+/// A text of one class with so many parentheses round its clause.
+fn nested(alloc: Global, depth: usize) -> Result<Vec<u8>, Fail> {
+    let mut text = Vec::from_slice(alloc, b"class A { void m(A a) { requires ")?;
+    for _ in 0..depth {
+        text.push(b'(')?;
+    }
+    text.extend_from_slice(b"a == a")?;
+    for _ in 0..depth {
+        text.push(b')')?;
+    }
+    text.extend_from_slice(b"; } }")?;
+    Ok(text)
+}
+
+/// The status and what was taken of `show` on this text.
+fn shown(alloc: Global, text: &[u8]) -> Result<(Status, Vec<u8>), Fail> {
+    alone(alloc, "show", text)
+}
+
+/// The same of this command.
+fn alone(alloc: Global, command: &'static str, text: &[u8]) -> Result<(Status, Vec<u8>), Fail> {
+    let mut words = Vec::new(alloc);
+    for word in [command, "sets.easl"] {
+        words.push(String::from_str(alloc, word)?)?;
+    }
+    let mut files = Vec::new(alloc);
+    files.push(held(alloc, b"sets.easl", text)?)?;
+    let mut shelf = MemShelf::new(files, Vec::new(alloc));
+    let mut sink = MemSink::new(alloc, 1000, Vec::new(alloc))?;
+    let status = canvas(alloc, words.as_slice(), &mut shelf, &mut sink);
+    Ok((status, Vec::from_slice(alloc, sink.taken())?))
+}
+
+#[test]
+fn refusals_of_specifications(rt: HostRuntime) -> Result<(), Fail> {
+    let rows: [(&'static [u8], &[u8]); 14] = [
+        (b"class A {\n  /* \xC3\xA9 */ \xFF( }", b"E1 2:11"),
+        (b"class A { } class A { } #", b"E2 1:25"),
+        (b"class A { void m() { } } \"abc", b"E2 1:26"),
+        (b"class A { void m() { } x }", b"E3 1:26"),
+        (b"class A {", b"E3 1:10"),
+        (
+            b"class A { void m(int a, int b, int c, int d, int e) { } }",
+            b"E4 parameters 1:46",
+        ),
+        (
+            b"class A {\n  A f;\n  A(A x) { f = x; }\n  void m(A a) { requires a.f.f.f.f.f.f.f == a; }\n}",
+            b"E4 path 4:40",
+        ),
+        (b"class A { } class A { }", b"S1 1:19"),
+        (b"class A { B b; }", b"S2 1:11"),
+        (
+            b"class A { void m(Object o) { requires o == o; } }",
+            b"S3 1:39",
+        ),
+        (b"class A { A f; A() { f = this; } }", b"S4 1:26"),
+        (
+            b"class A { A f; A(A x) { if (x == x) { f = x; } } }",
+            b"S4 1:16",
+        ),
+        (
+            b"class A { B b; A() { b = new B(); } } class B { A a; B() { a = new A(); } }",
+            b"S5 1:26",
+        ),
+        (CHAIN, b"S6 11:13"),
+    ];
+    for (text, fault) in rows {
+        let mut line = Vec::from_slice(rt.alloc(), b"refused specification ")?;
+        line.extend_from_slice(fault)?;
+        line.push(b'\n')?;
+        let (status, taken) = shown(rt.alloc(), text)?;
+        assert_eq!(rt; taken.as_slice(), line.as_slice());
+        assert_eq!(rt; status, Status::Refused);
+        let case = Case {
+            specification: text,
+            client: BRANCHING,
+            ..PLAIN
+        };
+        let (status, taken) = outcome(rt.alloc(), &case)?;
+        assert_eq!(rt; taken.as_slice(), line.as_slice());
+        assert_eq!(rt; status, Status::Refused);
+    }
+    Ok(())
+}
+
+#[test]
+fn specifications_that_are_shown(rt: HostRuntime) -> Result<(), Fail> {
+    let written: &[u8] = b"class A {
+  A f;
+  A(A x) {
+    if (x == x) {
+      f = x;
+    } else {
+      f = x;
+    }
+  }
+  boolean m(A a, int n) {
+    requires (a == f || a != this.f) && (a == a && f == f) || a.f == f;
+    A b = new A(a);
+    if (a != b) {
+      b.f = a;
+    }
+  }
+  A n() {
+    return new A(this);
+  }
+}
+";
+    let text: &[u8] =
+        b"class A{A f;A(A x){if(x==x){f=x;}else{f=x;}}/* c */ boolean m(A a,int n){requires (a==f||a!=this.f)&&(a==a&&f==f)||a.f==f;A b=new A(a);if(a!=b){b.f=a;}} A n(){return new A(this);}}";
+    for text in [text, written] {
+        let (status, taken) = shown(rt.alloc(), text)?;
+        assert_eq!(rt; taken.as_slice(), written);
+        assert_eq!(rt; status, Status::Fine);
+    }
+    Ok(())
+}
+
+const SETS_DERIVED: &[u8] = b"families 4
+F1 (Iterator x1) x1.defVer != x1.set.ver
+F2 (Iterator x1, Iterator x2) x1 != x2, x1.set == x2.set
+F3 (Set x1, Iterator x2) x1 == x2.set
+F4 (Set x1, Set x2) x1 == x2
+clauses
+Iterator.remove 1: F1(this)
+Iterator.next 1: F1(this)
+updates
+Iterator.new {x1} F1: never
+Iterator.remove {} F1: F1(x1) or F2(x1, this)
+Set.add {} F1: F3(this, x1) or F1(x1)
+Set.iterator {x1} F1: never
+Iterator.new {x1} F2: F3(p1, x2)
+Iterator.new {x2} F2: F3(p1, x1)
+Iterator.new {x1, x2} F2: never
+Set.iterator {x1} F2: F3(this, x2)
+Set.iterator {x2} F2: F3(this, x1)
+Set.iterator {x1, x2} F2: never
+Iterator.new {x2} F3: F4(x1, p1)
+Set.new {x1} F3: never
+Set.iterator {x2} F3: F4(x1, this)
+Set.new {x1} F4: never
+Set.new {x2} F4: never
+Set.new {x1, x2} F4: always
+";
+
+const CELLS: &[u8] = b"class Flag { }
+class Cell {
+  Flag a;
+  Flag b;
+  Cell() { a = new Flag(); b = a; }
+  void mark() { if (a == b) { b = new Flag(); } }
+  void reset() { if (a != b) { b = a; } }
+  void use() { requires a == b; }
+}
+";
+
+const LONG_CHAINS: &[u8] = b"class A {
+  A f;
+  A(A x) { f = x; }
+  void m(A a, A b, A c, A d) { requires a.f.f.f.f == b.f.f.f.f && c.f.f.f.f == d.f.f.f.f; }
+}
+";
+
+#[test]
+fn derivations(rt: HostRuntime) -> Result<(), Fail> {
+    let rows: [(&'static [u8], &[u8], Status); 4] = [
+        (SETS, SETS_DERIVED, Status::Fine),
+        (CELLS, b"open O4 Cell.mark {} F5\n", Status::Open),
+        (LONG_CHAINS, b"limit cases A.m clause 1\n", Status::Limit),
+        (
+            b"class A { B b; }",
+            b"refused specification S2 1:11\n",
+            Status::Refused,
+        ),
+    ];
+    for (text, written, status) in rows {
+        let (found, taken) = alone(rt.alloc(), "derive", text)?;
+        assert_eq!(rt; taken.as_slice(), written);
+        assert_eq!(rt; found, status);
+    }
+    Ok(())
+}
+
+#[test]
+fn limits_of_specifications(rt: HostRuntime) -> Result<(), Fail> {
+    let alloc = rt.alloc();
+    let deep = nested(alloc, 62)?;
+    let deeper = nested(alloc, 63)?;
+    let rows: [(&[u8], &[u8], Status); 4] = [
+        (deep.as_slice(), PARENTHESES_LEFT_OUT, Status::Fine),
+        (
+            deeper.as_slice(),
+            b"refused specification E4 nesting 1:96\n",
+            Status::Refused,
+        ),
+        (
+            &[b' '; 65_536],
+            b"refused specification E3 1:65537\n",
+            Status::Refused,
+        ),
+        (
+            &[b' '; 65_537],
+            b"limit specification bytes 65536\n",
+            Status::Limit,
+        ),
+    ];
+    for (text, written, status) in rows {
+        let (found, taken) = shown(alloc, text)?;
+        assert_eq!(rt; taken.as_slice(), written);
+        assert_eq!(rt; found, status);
     }
     Ok(())
 }
@@ -350,6 +625,8 @@ fn loads_from_files(rt: HostRuntime) -> Result<(), Fail> {
     assert_eq!(rt; zeros.map(|bytes| bytes.len()), Ok(10_000));
     let missing = shelf.load(rt.alloc(), "no such file", 9999);
     assert_eq!(rt; missing.map(|bytes| bytes.len()), Err(LoadFault::Failed));
+    let folder = shelf.load(rt.alloc(), "/", 9999);
+    assert_eq!(rt; folder.map(|bytes| bytes.len()), Err(LoadFault::Failed));
     Ok(())
 }
 

@@ -1,4 +1,4 @@
-use Rattle.std.proofs.Common.{subst}
+use Rattle.std.proofs.Common.{rules, subst}
 use Rattle.cv_base.specs.Causes.{Rose}
 use Rattle.canvas_cli.specs.Answers.{ClientAnswers}
 use Rattle.canvas_cli.proofs.Loads.{answered}
@@ -15,3 +15,6 @@ returns-in-Ok g c =
     answered (held old) (held mid) (faults old) (faults mid) (faults c.perform_on.new.shelf) command c.args.spec.now client
     c.in-Ok.text.items c.perform_on.result c.in-Ok.ensures.text (c.load.ensures.held client) (c.load.ensures.later client)
     (subst (λ text. ClientAnswers command text (held mid client) (Rose (faults mid client) (faults c.perform_on.new.shelf client)) c.perform_on.result) c.as_slice.ensures.value c.perform_on.ensures.answers)
+
+pub returns-in-Err-TooLong : goal.returns-in-Err-TooLong
+returns-in-Err-TooLong g c = c.in-Err-TooLong.ensures.too_long (search rules)
