@@ -3,10 +3,11 @@
 ghost use Rattle.std.specs.Prelude.{◌<◌, ◌≤◌, length, IsTrue};
 ghost use Rattle.easl_heap.specs.Body.{HasArguments};
 
+use crate::reading::{Refused, checked, checked_again};
 use client_run::{Outcome, run};
+use cv_base::{Memory, push_bytes, push_number};
 use easl_heap::{Done, Heap};
 use easl_model::CheckedSpec;
-use first_form::{FormFault, read_specification};
 use sole_main::read_straight;
 use std::alloc::Global;
 use std::test::Fail;
@@ -52,11 +53,8 @@ fn fits(spec: &CheckedSpec, method: u32, args: &[u32]) -> bool
 }
 
 /// The specification; where memory is wanted, it is read once more.
-pub(crate) fn specification(alloc: Global) -> Result<CheckedSpec, FormFault> {
-    match read_specification(alloc, SETS) {
-        Err(FormFault::Memory) => read_specification(alloc, SETS),
-        read => read,
-    }
+pub(crate) fn specification(alloc: Global) -> Result<CheckedSpec, Refused> {
+    checked_again(alloc, SETS)
 }
 
 /// How many objects there are, and what the fields of the sets and iterators hold.
@@ -78,7 +76,7 @@ fn call(
     method: u32,
     args: &[u32],
 ) -> Option<Result<Done, u32>> {
-    if !fits(spec, method, args) || heap.count() > 1000 {
+    if !fits(spec, method, args) || heap.count() > 100_000 {
         return None;
     }
     match heap.requires_of(spec, method, args) {
@@ -140,6 +138,80 @@ fn iterators_follow_their_set(rt: HostRuntime) -> Result<(), Fail> {
     ] {
         assert_eq!(rt; heap.get(object, field), want, "field {field} of {object}");
     }
+    Ok(())
+}
+
+const CELLS: &[u8] = b"class Flag { }
+class Cell {
+  Flag a;
+  Flag b;
+  Cell() { a = new Flag(); b = a; }
+  void mark() { if (a == b) { b = new Flag(); } }
+}
+";
+
+#[test]
+fn a_conditional_counts_as_one_statement(rt: HostRuntime) {
+    let Ok(spec) = checked(rt.alloc(), CELLS) else {
+        assert!(rt; false, "not read");
+        return;
+    };
+    let mut heap = Heap::new(rt.alloc());
+    let rows: [(u32, &[u32], Result<Done, u32>, u32); 3] = [
+        (1, &[], done(1, 2), 2),
+        (2, &[1], done(0, 2), 3),
+        (2, &[1], done(0, 1), 3),
+    ];
+    for (method, args, want, count) in rows {
+        assert_eq!(rt; call(&mut heap, &spec, method, args), Some(want));
+        assert_eq!(rt; heap.count(), count);
+    }
+    assert_eq!(rt; (heap.get(1, 0), heap.get(1, 1)), (2, 3));
+}
+
+#[test]
+fn heaps_grow_past_65535_objects(rt: HostRuntime) {
+    let Ok(spec) = specification(rt.alloc()) else {
+        assert!(rt; false, "not read");
+        return;
+    };
+    let mut heap = Heap::new(rt.alloc());
+    assert_eq!(rt; call(&mut heap, &spec, NEW_SET, &[]), Some(done(1, 1)));
+    for _ in 0..65_600 {
+        assert_eq!(rt; call(&mut heap, &spec, ADD, &[1, 0]), Some(done(0, 1)));
+    }
+    assert_eq!(rt; heap.count(), 65_602);
+    assert_eq!(rt; heap.get(1, 0), 65_602);
+}
+
+/// A method of four parameters, 63 locals and a `return`.
+fn many_locals(alloc: Global) -> Result<Vec<u8>, Memory> {
+    let mut text = Vec::new(alloc);
+    push_bytes(&mut text, b"class A { A m(A a, A b, A c, A v0) { ")?;
+    for number in 0..63u32 {
+        push_bytes(&mut text, b"A v")?;
+        push_number(&mut text, u64::from(number + 1))?;
+        push_bytes(&mut text, b" = v")?;
+        push_number(&mut text, u64::from(number))?;
+        push_bytes(&mut text, b"; ")?;
+    }
+    push_bytes(&mut text, b"return v63; } }")?;
+    Ok(text)
+}
+
+#[test]
+fn the_most_locals_are_held(rt: HostRuntime) -> Result<(), Memory> {
+    let text = many_locals(rt.alloc())?;
+    assert!(rt; text.len() <= 65_536);
+    let Ok(spec) = checked(rt.alloc(), &text) else {
+        assert!(rt; false, "not read");
+        return Ok(());
+    };
+    let mut heap = Heap::new(rt.alloc());
+    assert_eq!(rt; call(&mut heap, &spec, 0, &[]), Some(done(1, 0)));
+    assert_eq!(rt; call(&mut heap, &spec, 0, &[]), Some(done(2, 0)));
+    let given = call(&mut heap, &spec, 1, &[1, 1, 1, 1, 2]);
+    assert_eq!(rt; given, Some(done(2, 64)));
     Ok(())
 }
 

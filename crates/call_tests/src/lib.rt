@@ -3,15 +3,25 @@
 #![tactic(auto)]
 
 #[cfg(test)]
+mod abstractions;
+#[cfg(test)]
 mod clients;
 #[cfg(test)]
 mod closures;
+#[cfg(test)]
+mod disjuncts;
 #[cfg(test)]
 mod heaps;
 #[cfg(test)]
 mod outside;
 #[cfg(test)]
+mod printing;
+#[cfg(test)]
 mod questions;
+#[cfg(test)]
+mod reading;
+#[cfg(test)]
+mod rules;
 #[cfg(test)]
 mod specifications;
 #[cfg(test)]

@@ -5,12 +5,12 @@ ghost use Rattle.access_paths.specs.Terms.{IsCube};
 ghost use Rattle.weakest_pre.specs.Growing.{HasClause};
 
 use crate::heaps::specification;
+use crate::reading::checked;
 use access_paths::{
     Cube, Family, Fields, Instance, Literal, SplitFault, Term, Tree, Var, family_of, fits,
 };
 use cv_base::{List, Memory};
 use easl_model::CheckedSpec;
-use first_form::read_specification;
 use smallvec::SmallVec;
 use std::alloc::{AllocError, Global};
 use std::cmp::Ordering;
@@ -19,7 +19,7 @@ use weakest_pre::{split, split_clause};
 
 const NEXT: u32 = 2;
 
-const ADD: u32 = 4;
+pub(crate) const ADD: u32 = 4;
 
 /// The term of a variable and the positions of fields.
 fn term(alloc: Global, variable: u8, fields: &[u32]) -> Result<Term, AllocError> {
@@ -30,12 +30,12 @@ fn term(alloc: Global, variable: u8, fields: &[u32]) -> Result<Term, AllocError>
 }
 
 /// Whether a term is that of the variable and the fields.
-fn is_term(found: &Term, variable: u8, fields: &[u32]) -> bool {
+pub(crate) fn is_term(found: &Term, variable: u8, fields: &[u32]) -> bool {
     found.var == Var(variable) && found.fields.as_slice() == fields
 }
 
 /// The literal that compares `x.defVer` and `x.set.ver` of an iterator.
-fn stale(alloc: Global, variable: u8) -> Result<Literal, AllocError> {
+pub(crate) fn stale(alloc: Global, variable: u8) -> Result<Literal, AllocError> {
     Ok(Literal {
         same: false,
         less: term(alloc, variable, &[1])?,
@@ -58,7 +58,7 @@ fn tree_after(
 }
 
 /// Whether the method has this clause, from 1.
-fn has_clause(spec: &CheckedSpec, method: u32, clause: u32) -> bool
+pub(crate) fn has_clause(spec: &CheckedSpec, method: u32, clause: u32) -> bool
     ensures method { IsTrue result → method < length spec.now.methods }
     ensures clause { IsTrue result → HasClause spec.now method clause }
 {
@@ -141,7 +141,7 @@ const DEEP: &[u8] = b"class A {
 #[test]
 fn a_term_of_seven_fields_is_too_long(rt: HostRuntime) -> Result<(), Fail> {
     let alloc = rt.alloc();
-    let Ok(spec) = read_specification(alloc, DEEP) else {
+    let Ok(spec) = checked(alloc, DEEP) else {
         assert_eq!(rt; "read", "not read");
         return Ok(());
     };

@@ -1,6 +1,6 @@
 //! Specifications that are read.
 use cv_lex::{TextFault, Which};
-use easl_model::{Code, Cond, Member, Opaque, Place, Sort, Step, Value};
+use easl_model::{Code, Cond, Member, Opaque, Place, Requires, Return, Sort, Step, Value};
 use easl_parser::read_spec;
 use std::test::Fail;
 
@@ -57,8 +57,20 @@ fn is_made(code: &Code) -> bool {
 
 fn is_iterator(code: &Code) -> bool {
     matches!(code.result, Sort::Class(_))
-        && matches!(code.clauses.as_slice(), [Cond::All(_)])
-        && matches!(code.value, Some(Value::New(_)))
+        && matches!(
+            code.clauses.as_slice(),
+            [Requires {
+                condition: Cond::All(_),
+                ..
+            }]
+        )
+        && matches!(
+            code.value,
+            Some(Return {
+                value: Value::New(_),
+                ..
+            })
+        )
         && code.end == (Place { line: 7, col: 3 })
 }
 

@@ -48,11 +48,64 @@ fn takes_the_longest_token(rt: HostRuntime) -> Result<(), Fail> {
 }
 
 #[test]
-fn refuses_what_is_not_of_the_form(rt: HostRuntime) -> Result<(), Fail> {
-    let texts: [&[u8]; 5] = [b"a / b", b"!", b"\"a", b"a\\b", b"\xc3\xa9"];
-    for text in texts {
-        let read = tokens(rt.alloc(), text);
-        assert!(rt; matches!(read, Err(TextFault::NotBuilt)));
-    }
+fn passes_over_comments_and_counts_characters(rt: HostRuntime) -> Result<(), Fail> {
+    let text = b"\xc3\xa9 /* \xc3\xa9 */\"\\\"\xc3\xa9\"// *\n/**/_x";
+    let name = Token {
+        kind: Kind::Name,
+        start: 0,
+        end: 2,
+        place: Place { line: 1, col: 1 },
+    };
+    let quoted = Token {
+        kind: Kind::Text,
+        start: 11,
+        end: 17,
+        place: Place { line: 1, col: 10 },
+    };
+    let last = Token {
+        kind: Kind::Name,
+        start: 26,
+        end: 28,
+        place: Place { line: 2, col: 5 },
+    };
+    let read = tokens(rt.alloc(), text)?;
+    assert_eq!(rt; read.list.as_slice(), [name, quoted, last].as_slice());
+    assert_eq!(rt; read.end, Place { line: 2, col: 7 });
     Ok(())
+}
+
+#[test]
+fn tells_where_no_token_begins(rt: HostRuntime) {
+    let rows: [(&[u8], u32, u32); 10] = [
+        (b"a / b", 1, 3),
+        (b"!", 1, 1),
+        (b"\"a", 1, 1),
+        (b"a\\b", 1, 2),
+        (b"\"a\n\"", 1, 1),
+        (b"\"\\\"", 1, 1),
+        (b"a|b", 1, 2),
+        (b"/*/", 1, 1),
+        (b"/* \xc3\xa9 */ #", 1, 9),
+        (b"//#\n  #", 2, 3),
+    ];
+    for (text, line, col) in rows {
+        let place = Place { line, col };
+        let fault = tokens(rt.alloc(), text).err();
+        assert_eq!(rt; fault, Some(TextFault::BadToken(place)));
+    }
+}
+
+#[test]
+fn tells_where_utf8_ends(rt: HostRuntime) {
+    let rows: [(&[u8], u32, u32); 4] = [
+        (b"\xff", 1, 1),
+        (b"#\xc3", 1, 2),
+        (b"\xe2\x82", 1, 1),
+        (b"class A {\n  // \xc3\xa9 x\n  \xff", 3, 3),
+    ];
+    for (text, line, col) in rows {
+        let place = Place { line, col };
+        let fault = tokens(rt.alloc(), text).err();
+        assert_eq!(rt; fault, Some(TextFault::NotUtf8(place)));
+    }
 }
