@@ -1,5 +1,5 @@
 -- Laws of rows.
-use Rattle.std.proofs.Common.{◌≡◌, ℕ, ◌≤◌, true, false, not, ◌==◌, nat_le, List, [], ◌∷◌, length, zip, bit_and, refl, ap, sym, ◌∙◌, ⊎_elim, arith, le-leb, leb-true, eq-eqb, eqb-true}
+use Rattle.std.proofs.Common.{◌≡◌, ℕ, ◌≤◌, true, false, not, ◌==◌, ◌||◌, nat_le, List, [], ◌∷◌, length, zip, bit_and, refl, ap, sym, ◌∙◌, ⊎_elim, arith, le-leb, leb-true, eq-eqb, eqb-true}
 use Rattle.std.specs.List.{list_all}
 use Rattle.std.specs.Int.Bits.{and_self, and_comm, and_zero_r}
 use Rattle.std.proofs.lemmas.Bool.{and_parts, and_from, or_cases, or_parts, or_from, or_left, or_right, not-true, not-false, not_from_true, not_from_false, eqb-false, false_from_ne_true}
@@ -77,3 +77,19 @@ meets_narrower (x ∷ xs) (y ∷ ys) (n ∷ ns) w h =
     let none : bit_and y n ≡ 0 = eqb-true (bit_and y n) 0 (not-false (bit_and y n == 0) p.0) in
     let here : bit_and x n ≡ 0 = ap (λ v. bit_and v n) (sym w.0) ∙ and_assoc n x y ∙ ap (bit_and x) none ∙ and_zero_r x in
     or_from (not (bit_and x n == 0)) (meets xs ns) (not_from_true (bit_and x n == 0) (eq-eqb (bit_and x n) 0 here)) (meets_narrower xs ys ns w.1 p.1)
+
+-- some bit is set in all three
+pub meets_turned : (xs ys zs : List ℕ) → meets (both xs zs) ys ≡ meets (both xs ys) zs
+meets_turned [] ys zs = refl
+meets_turned (x ∷ xs) [] [] = refl
+meets_turned (x ∷ xs) [] (z ∷ zs) = refl
+meets_turned (x ∷ xs) (y ∷ ys) [] = refl
+meets_turned (x ∷ xs) (y ∷ ys) (z ∷ zs) =
+    let turned : bit_and (bit_and x z) y ≡ bit_and (bit_and x y) z = and_assoc y x z ∙ ap (bit_and x) (and_comm z y) ∙ sym (and_assoc z x y) in
+    ap (λ w. not (w == 0) || meets (both xs zs) ys) turned ∙ ap (λ b. not (bit_and (bit_and x y) z == 0) || b) (meets_turned xs ys zs)
+
+-- what is set in both is set somewhere where they meet
+pub some_both : (xs ys : List ℕ) → is_some (both xs ys) ≡ meets xs ys
+some_both [] ys = refl
+some_both (x ∷ xs) [] = refl
+some_both (x ∷ xs) (y ∷ ys) = ap (λ b. not (bit_and x y == 0) || b) (some_both xs ys)

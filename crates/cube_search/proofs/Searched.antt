@@ -1,11 +1,11 @@
 -- The search keeps the widest of all cubes.
-use Rattle.std.proofs.Common.{◌≡◌, ℕ, zero, suc, ◌<◌, ◌≤◌, Bool, true, false, not, cond, ◌&&◌, ◌||◌, List, [], ◌∷◌, ◌++◌, length, get_or, refl, ap, sym, subst, ◌∙◌, inl, inr, ⊎_elim, arith, append-nil, length-append, le-leb, leb-true, eq-or-lt_of_le}
+use Rattle.std.proofs.Common.{◌≡◌, ℕ, zero, suc, ◌<◌, ◌≤◌, Bool, true, false, not, cond, ◌&&◌, ◌||◌, List, [], ◌∷◌, ◌++◌, length, get_or, drop, refl, ap, sym, subst, ◌∙◌, inl, inr, ⊎_elim, arith, append-nil, length-append, le-leb, leb-true, eq-or-lt_of_le}
 use Rattle.std.specs.List.{list_any}
-use Rattle.std.proofs.lemmas.Bool.{and_parts, and_from, not_from_false}
+use Rattle.std.proofs.lemmas.Bool.{and_parts, and_from, not_from_false, false_from_ne_true}
 use Rattle.std.proofs.lemmas.List.Folds.{list_any-append}
 use Rattle.cube_search.specs.Rows.{both, is_some, meets}
 use Rattle.cube_search.specs.Cubes.{IsTail, IsBefore, row_of, covers, Before, IsCube, Counts}
-use Rattle.cube_search.specs.Search.{candidate, is_mentioned, how_many, is_few, takes, kept_of, visited, all_visited, considered}
+use Rattle.cube_search.specs.Search.{candidate, is_mentioned, how_many, is_few, takes, offered, kept_of, visited, all_visited, considered}
 use Rattle.cube_search.specs.declared.searching.Candidate.{Candidate}
 use Rattle.cube_search.specs.declared.searching.Task.{Task}
 use Rattle.cube_search.proofs.Kept.{IsPreorder, IsAtMost, IsGood, keep, good_from_none}
@@ -41,6 +41,35 @@ pub few_fewer : (vs : List (ℕ × ℕ)) (p more : List ℕ) → is_few vs (p ++
 unfolding is_few
 few_fewer vs p more h =
     le-leb (how_many vs p 8) 3 (omega (arith, leb-true (how_many vs (p ++ more) 8) 3 h, fewer vs p more 8))
+
+clash : (b : Bool) → b ≡ false → b ≡ true → ⊥
+clash true e f = absurd (cc)
+clash false e f = absurd (cc)
+
+-- where none is an implicant nothing changes
+kept_none : (task : Task) (vs kept : List Candidate) → ((v : Candidate) → IsIn v vs → takes task v ≡ false) → kept_of task vs kept ≡ kept
+kept_none task [] kept unfit = refl
+kept_none task (v ∷ vs) kept unfit =
+    ap (λ b. kept_of task vs (cond b (offered v kept) kept)) (unfit v (inl refl)) ∙ kept_none task vs kept (λ w i. unfit w (inr i))
+
+-- a cube with many variables is no implicant, and no longer one is
+pub many : (task : Task) (left from : ℕ) (row cube : List ℕ) (kept : List Candidate) → is_few task.variables.items cube ≡ false
+    → kept_of task (visited task.never left from (drop from task.rows.items) row cube) kept ≡ kept
+many task left from row cube kept few =
+    kept_none task (visited task.never left from (drop from task.rows.items) row cube) kept
+    (λ v i. unfit v (comes task.rows.items task.never left from (drop from task.rows.items) row cube refl v i))
+  where
+    by : (b c d : Bool) → d ≡ false → (b && c && d) ≡ false
+    by true true d e = e
+    by true false d e = refl
+    by false c d e = refl
+
+    unfit : (v : Candidate) → Comes task.rows.items from left row cube v → takes task v ≡ false
+    unfit v c =
+        by (is_some v.row) (not (meets v.row task.never)) (is_few task.variables.items v.cube)
+        (false_from_ne_true (is_few task.variables.items v.cube)
+        (λ e. clash (is_few task.variables.items cube) few
+        (few_fewer task.variables.items cube c.more (sym (ap (λ w. is_few task.variables.items w.cube) c.is) ∙ e))))
 
 row_of-within : (rows : List (List ℕ)) (row more : List ℕ) → Within (row_of rows row more) row
 row_of-within rows row [] = within-itself row

@@ -1,9 +1,11 @@
 -- The steps of the search's loops.
-use Rattle.std.proofs.Common.{◌≡◌, ℕ, zero, suc, ◌+◌, ◌-◌, ◌<◌, ◌≤◌, true, false, cond, List, [], ◌∷◌, ◌++◌, length, get_or, drop, refl, ap, sym, ◌∙◌, arith, add-one, drop-cons, drop_of_length-le}
-use Rattle.cube_search.specs.Rows.{both, meets}
-use Rattle.cube_search.specs.Search.{how_many, has_variable, candidate, kept_of, considered, longer, visited, all_visited}
+use Rattle.std.proofs.Common.{◌≡◌, ℕ, zero, suc, ◌+◌, ◌-◌, ◌<◌, ◌≤◌, Bool, true, false, not, cond, ◌&&◌, ◌||◌, List, [], ◌∷◌, ◌++◌, length, get_or, drop, refl, ap, sym, ◌∙◌, arith, add-one, drop-cons, drop_of_length-le}
+use Rattle.std.proofs.lemmas.List.Folds.{list_any-append}
+use Rattle.cube_search.specs.Rows.{both, is_some, meets}
+use Rattle.cube_search.specs.Search.{how_many, is_mentioned, has_variable, is_few, candidate, kept_of, offered, considered, longer, visited, all_visited}
 use Rattle.cube_search.specs.declared.searching.Candidate.{Candidate}
 use Rattle.cube_search.specs.declared.searching.Task.{Task}
+use Rattle.cube_search.proofs.RowLaws.{some_both, meets_turned}
 
 pub how_many_next : (variables : List (ℕ × ℕ)) (cube : List ℕ) (n : ℕ)
     → how_many variables cube (n + 1) ≡ how_many variables cube n + cond (has_variable variables cube n) 1 0
@@ -30,6 +32,43 @@ visited_more never zero from rest row cube n m = absurd (n refl)
 visited_more never (suc left) from rest row cube n m =
     let less : suc left - 1 ≡ left = omega arith in
     rw (m, less) refl
+
+pub visited_last : (never : List ℕ) (left from : ℕ) (rest : List (List ℕ)) (row cube : List ℕ) → left ≡ 1 → meets row never ≡ true
+    → visited never left from rest row cube ≡ longer (visited never 0) from rest row cube
+visited_last never left from rest row cube e m = rw (e, m) refl
+
+pub visited_pair : (never : List ℕ) (left from : ℕ) (rest : List (List ℕ)) (row cube : List ℕ) → left ≡ 2 → meets row never ≡ true
+    → visited never left from rest row cube ≡ longer (visited never 1) from rest row cube
+visited_pair never left from rest row cube e m = rw (e, m) refl
+
+pub has_one_more : (variables : List (ℕ × ℕ)) (cube : List ℕ) (literal variable : ℕ)
+    → has_variable variables (cube ++ literal ∷ []) variable ≡ (has_variable variables cube variable || is_mentioned variables variable literal)
+has_one_more variables cube literal variable =
+    list_any-append (is_mentioned variables variable) cube (literal ∷ [])
+    ∙ ap (λ b. has_variable variables cube variable || b) (or_false (is_mentioned variables variable literal))
+  where
+    or_false : (b : Bool) → (b || false) ≡ b
+    or_false true = refl
+    or_false false = refl
+
+-- what is true where the tree is false is not kept
+pub unfit : (task : Task) (bad row other cube : List ℕ) (kept : List Candidate) → bad ≡ both row task.never → meets bad other ≡ true
+    → considered task (candidate (both row other) cube) kept ≡ kept
+unfit task bad row other cube kept e m =
+    by (is_some (both row other)) (meets (both row other) task.never) (is_few task.variables.items cube)
+    (sym (meets_turned row other task.never) ∙ ap (λ b. meets b other) (sym e) ∙ m)
+  where
+    by : (b c d : Bool) → c ≡ true → cond (b && not c && d) (offered (candidate (both row other) cube) kept) kept ≡ kept
+    by true true d m = refl
+    by false true d m = refl
+    by b false d m = absurd (cc)
+
+-- what is true nowhere is not kept
+pub idle : (task : Task) (row other cube : List ℕ) (kept : List Candidate) → meets row other ≡ false
+    → considered task (candidate (both row other) cube) kept ≡ kept
+idle task row other cube kept m =
+    ap (λ b. cond (b && not (meets (both row other) task.never) && is_few task.variables.items cube) (offered (candidate (both row other) cube) kept) kept)
+    (some_both row other ∙ m)
 
 -- What is left of a loop's work, from literal `at` on, gives what the whole gives.
 abbrev pub IsAlong : Task → ℕ → ℕ → List ℕ → List ℕ → List Candidate → ℕ → List Candidate → Type 0

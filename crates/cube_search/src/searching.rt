@@ -1,6 +1,7 @@
 //! The search for the widest cubes.
 ghost use Rattle.std.specs.Prelude.{◌≡◌, ℕ, ◌+◌, ◌<◌, ◌≤◌, cond, [], ◌∷◌, ◌++◌, drop, IfOk, OnOk};
-ghost use Rattle.cube_search.specs.Search.{is_few, how_many, has_variable, is_mentioned, takes, is_covered, left_by, offered, considered, kept_of, visited, all_visited};
+ghost use Rattle.cube_search.specs.Rows.{both};
+ghost use Rattle.cube_search.specs.Search.{is_few, how_many, has_variable, is_mentioned, takes, is_covered, left_by, offered, candidate, considered, kept_of, longer, visited, all_visited};
 
 use crate::row::{Row, both, is_some, is_within, meets, twin};
 use cv_base::Memory;
@@ -86,6 +87,26 @@ fn is_few(variables: &[(u8, u8)], cube: &Cube) -> bool
     count <= 3
 }
 
+/// Whether a cube with one literal more has at most three variables.
+#[tactic(auto, using(crate::proofs::Steps::how_many_next), unfolding(crate::specs::Search::is_few))]
+fn is_few_with(variables: &[(u8, u8)], cube: &Cube, literal: usize) -> bool
+    ensures { result ≡ is_few variables.now (cube.now ++ literal ∷ []) }
+{
+    let mut count = 0u8;
+    for variable in 0..8u8 {
+        count += one(has_variable_with(variables, cube, literal, variable));
+    }
+    count <= 3
+}
+
+/// Whether a literal of the cube or this one has a term of this variable.
+#[tactic(auto, using(crate::proofs::Steps::has_one_more))]
+fn has_variable_with(variables: &[(u8, u8)], cube: &Cube, literal: usize, variable: u8) -> bool
+    ensures { result ≡ has_variable variables.now (cube.now ++ literal ∷ []) variable }
+{
+    has_variable(variables, cube, variable) || is_mentioned(variables, variable, literal)
+}
+
 /// Whether a literal of the cube has a term of this variable.
 fn has_variable(variables: &[(u8, u8)], cube: &Cube, variable: u8) -> bool
     ensures { result ≡ has_variable variables.now cube.now variable }
@@ -157,8 +178,118 @@ fn consider(
     offer(kept, Candidate { row, cube })
 }
 
+/// Offers the cube with two literals more, if it is an implicant: `row` is where it is true with the first, `bad` where the
+/// tree is false besides, `other` where the second is true.
+#[tactic(auto, using(crate::proofs::Steps::unfit, crate::proofs::Steps::idle))]
+fn finish(
+    alloc: Global,
+    task: &Task,
+    literals: (usize, usize),
+    other: &Row,
+    bad: &Row,
+    row: &Row,
+    cube: &Cube,
+    kept: &mut Vec<Candidate>,
+) -> Result<(), Memory>
+    requires bad { bad.now ≡ both row.now task.now.never }
+    ensures { OnOk result (kept.new.items
+        ≡ considered task.now (candidate (both row.now other.now) ((cube.now ++ literals.0 ∷ []) ++ literals.1 ∷ [])) kept.old.items) }
+{
+    if meets(bad, other) || !meets(row, other) {
+        return Ok(());
+    }
+    let narrower = both(alloc, row, other)?;
+    let more = longer(alloc, cube, literals.0)?;
+    let most = longer(alloc, &more, literals.1)?;
+    consider(alloc, task, &narrower, &most, kept)
+}
+
+/// Goes through the cubes with this literal and one more from `from` on; `row` is where the cube is true with the literal.
+fn search_last(
+    alloc: Global,
+    task: &Task,
+    from: usize,
+    row: &Row,
+    cube: &Cube,
+    literal: usize,
+    kept: &mut Vec<Candidate>,
+) -> Result<(), Memory>
+    ensures { OnOk result (kept.new.items ≡ kept_of task.now
+        (longer (visited task.now.never 0) from (drop from task.now.rows.items) row.now (cube.now ++ literal ∷ []))
+        kept.old.items) }
+{
+    let bad = both(alloc, row, &task.never)?;
+    'each: for last in from..task.rows.len() {
+        finish(
+            alloc,
+            task,
+            (literal, last),
+            &task.rows[last],
+            &bad,
+            row,
+            cube,
+            kept,
+        )?;
+    }
+    Ok(())
+}
+
+/// Goes through the cubes with this literal, true where `other` is set, and one more from `from` on.
+#[tactic(auto, using(crate::proofs::Steps::visited_stop, crate::proofs::Steps::visited_last))]
+fn search_with(
+    alloc: Global,
+    task: &Task,
+    from: usize,
+    literal: usize,
+    other: &Row,
+    row: &Row,
+    cube: &Cube,
+    kept: &mut Vec<Candidate>,
+) -> Result<(), Memory>
+    ensures { OnOk result (kept.new.items ≡ kept_of task.now
+        (visited task.now.never 1 from (drop from task.now.rows.items) (both row.now other.now) (cube.now ++ literal ∷ []))
+        kept.old.items) }
+{
+    if !is_few_with(&task.variables, cube, literal) {
+        return Ok(());
+    }
+    let narrower = both(alloc, row, other)?;
+    if !meets(&narrower, &task.never) {
+        return Ok(());
+    }
+    search_last(alloc, task, from, &narrower, cube, literal, kept)
+}
+
+/// Goes through the cubes with two literals more, from this literal on.
+fn search_pairs(
+    alloc: Global,
+    task: &Task,
+    from: usize,
+    row: &Row,
+    cube: &Cube,
+    kept: &mut Vec<Candidate>,
+) -> Result<(), Memory>
+    ensures { OnOk result (kept.new.items ≡ kept_of task.now
+        (longer (visited task.now.never 1) from (drop from task.now.rows.items) row.now cube.now)
+        kept.old.items) }
+{
+    'each: for literal in from..task.rows.len() {
+        search_with(
+            alloc,
+            task,
+            literal + 1,
+            literal,
+            &task.rows[literal],
+            row,
+            cube,
+            kept,
+        )?;
+    }
+    Ok(())
+}
+
 /// Goes through the cubes with so many literals more, from this literal on.
-#[tactic(auto, using(crate::proofs::Steps::visited_none, crate::proofs::Steps::visited_stop, crate::proofs::Steps::visited_more))]
+#[tactic(auto, using(crate::proofs::Steps::visited_none, crate::proofs::Steps::visited_stop, crate::proofs::Searched::many, crate::proofs::Steps::visited_pair, crate::proofs::Steps::visited_more))]
 fn search(
     alloc: Global,
     task: &Task,
@@ -177,6 +308,12 @@ fn search(
     }
     if !meets(row, &task.never) {
         return Ok(());
+    }
+    if !is_few(&task.variables, cube) {
+        return Ok(());
+    }
+    if left == 2 {
+        return search_pairs(alloc, task, from, row, cube, kept);
     }
     'each: for literal in from..task.rows.len() {
         let narrower = both(alloc, row, &task.rows[literal])?;
