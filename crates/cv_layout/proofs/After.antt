@@ -5,8 +5,8 @@ use Rattle.std.proofs.lemmas.Str.{encodes-append}
 use Rattle.cv_layout.specs.declared.page.Before.{Before}
 use Rattle.cv_layout.specs.declared.page.Before.TheVariants as before
 use Rattle.cv_layout.specs.declared.page.Page.{Page}
-use Rattle.cv_layout.specs.Layout.{Lexeme, text_of, before_next, is_close, is_open, space_unless, between, spaced, Line, indent, line_text, layout}
-use Rattle.cv_layout.specs.Page.{put, after, started, ended, after_lines}
+use Rattle.cv_layout.specs.{Lexeme, Line, after, after_lines, before_next, between, ended, indent, is_close, is_open, layout, line_text, put, space_unless}
+use Rattle.cv_layout.specs.{spaced, started, text_of}
 
 pub after_append : (p : Page) (xs ys : List Lexeme) → after p (xs ++ ys) ≡ after (after p xs) ys
 after_append p [] ys = refl

@@ -3,16 +3,15 @@ use Rattle.std.proofs.Common.{◌≡◌, ℕ, zero, suc, Bool, true, false, ◌|
 use Rattle.std.specs.List.{AllByRecursion}
 use Rattle.std.specs.Str.{all_scalars}
 use Rattle.std.proofs.lemmas.Str.{chars-encodes}
-use Rattle.easl_model.specs.Lexemes.{word_of}
-use Rattle.easl_model.specs.Tokens.{IsLongest, is_white, white, token_at, Cut, done, gap, token, place_after}
+use Rattle.easl_model.specs.{Cut, IsLongest, done, gap, is_white, place_after, token, token_at, white, word_of}
 use Rattle.easl_model.specs.declared.token.Kind.TheVariants as kind
 use Rattle.easl_model.specs.declared.token.Mark.TheVariants as sign
 use Rattle.easl_model.specs.declared.token.Token.{Token}
 use Rattle.easl_model.proofs.Pieces.{one_token}
 use Rattle.cv_layout.specs.declared.page.Before.{Before}
 use Rattle.cv_layout.specs.declared.page.Before.TheVariants as before
-use Rattle.cv_layout.specs.Layout.{Lexeme, mark, text_of, before_next, is_close, is_open, space_unless, between, spaced, Line, indent, line_text, layout}
-use Rattle.cv_layout.specs.Tokens.{IsProper, AreOf, tokens_on, LinesAreCut}
+use Rattle.cv_layout.specs.{AreOf, IsProper, Lexeme, Line, LinesAreCut, before_next, between, indent, is_close, is_open, layout, line_text, mark}
+use Rattle.cv_layout.specs.{space_unless, spaced, text_of, tokens_on}
 use Rattle.cv_layout.proofs.Ends.{EndsToken, longest_before, open_longest, dot_longest}
 use Rattle.cv_layout.proofs.Parts.{whole, token_word}
 

@@ -1,12 +1,10 @@
 -- Rules that enclose what another rule prints.
 use Rattle.std.proofs.Common.{◌≡◌, ℕ, true, List, [], ◌∷◌, ◌++◌, sym, ap, ◌∙◌, subst}
 use Rattle.std.specs.Str.{all_scalars}
-use Rattle.easl_model.specs.Lexemes.{IsMark}
-use Rattle.easl_model.specs.Tokens.{mark_text}
+use Rattle.easl_model.specs.{IsMark, mark_text}
 use Rattle.easl_model.specs.declared.token.Mark.{Mark}
 use Rattle.easl_model.specs.declared.token.Token.{Token}
-use Rattle.cv_layout.specs.Layout.{Lexeme, mark}
-use Rattle.cv_layout.specs.Tokens.{IsProper, IsOf}
+use Rattle.cv_layout.specs.{IsOf, IsProper, Lexeme, mark}
 use Rattle.cv_layout.proofs.Printed.{Prints}
 use Rattle.cv_layout.proofs.Single.{is_mark, mark_proper}
 use Rattle.cv_layout.proofs.Splits.{all_both, split, headed, ending}

@@ -8,9 +8,10 @@ use Rattle.easl_model.specs.declared.token.Kind.{Kind}
 use Rattle.easl_model.specs.declared.token.Kind.TheVariants as kind
 use Rattle.easl_model.specs.declared.token.Mark.{Mark}
 use Rattle.easl_model.specs.declared.token.Mark.TheVariants as mark
-use Rattle.easl_model.specs.Tokens.{mark_text, IsToken, IsLongest}
+use Rattle.easl_model.specs.{IsLongest, IsToken, mark_text}
 use Rattle.easl_model.proofs.Words.{token_some}
-use Rattle.cv_layout.proofs.Longest.{Stops, word_longest, number_longest, quoted_longest, longer_mark, mark_size}
+use Rattle.cv_lex.proofs.Longest.{word_longest, number_longest, quoted_longest, longer_mark, mark_size}
+use Rattle.cv_lex.proofs.Runs.{Stops}
 
 -- white space, and the marks that no space precedes
 abbrev pub ends_token : ℕ → Bool

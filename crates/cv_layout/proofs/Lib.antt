@@ -4,7 +4,6 @@ pub mod Enclosed
 pub mod Ends
 pub mod ListNests
 pub mod ListPrints
-pub mod Longest
 pub mod Nesting
 pub mod Parts
 pub mod Printed

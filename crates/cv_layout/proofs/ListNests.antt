@@ -1,14 +1,12 @@
 -- Lists of items, of which each that is printed nests no deeper than the tokens that it was read from.
 use Rattle.std.proofs.Common.{◌≡◌, ℕ, false, List, [], ◌∷◌, ◌++◌, map, flat_map, IsTrue, refl, subst}
-use Rattle.easl_model.specs.Grammar.{IsMany, none_of, next_of, IsMore, no_more, one_more, IsListed, nothing, listed}
-use Rattle.easl_model.specs.Lexemes.{is_literal, IsLiteral}
+use Rattle.easl_model.specs.{IsListed, IsLiteral, IsMany, IsMore, is_literal, listed, next_of, no_more, none_of, nothing, one_more}
 use Rattle.easl_model.specs.declared.token.Kind.TheVariants as kind
 use Rattle.easl_model.specs.declared.token.Mark.{Mark}
 use Rattle.easl_model.specs.declared.token.Mark.TheVariants as sign
 use Rattle.easl_model.specs.declared.token.Token.{Token}
 use Rattle.easl_model.specs.declared.tree.Word.{Word}
-use Rattle.cv_layout.specs.Layout.{Lexeme, mark, behind, separated}
-use Rattle.cv_layout.specs.Words.{named}
+use Rattle.cv_layout.specs.{Lexeme, behind, mark, named, separated}
 use Rattle.cv_layout.proofs.Nesting.{Nests, no_mark_flat, nests_nothing, nests_both, nests_flat, nests_mark, word_no_mark}
 use Rattle.cv_layout.proofs.Printed.{IsWritten, AreWritten}
 use Rattle.cv_layout.proofs.Splits.{all_front, all_back}

@@ -1,9 +1,9 @@
 -- Lists of items, of which each that is printed spells itself again.
 use Rattle.std.proofs.Common.{ℕ, List, [], ◌∷◌, ◌++◌, map, flat_map, refl, sym, ap, ◌∙◌, subst}
-use Rattle.easl_model.specs.Grammar.{IsMany, none_of, next_of, IsMore, no_more, one_more, IsListed, nothing, listed}
+use Rattle.easl_model.specs.{IsListed, IsMany, IsMore, listed, next_of, no_more, none_of, nothing, one_more}
 use Rattle.easl_model.specs.declared.token.Mark.TheVariants as sign
 use Rattle.easl_model.specs.declared.token.Token.{Token}
-use Rattle.cv_layout.specs.Layout.{Lexeme, mark, behind, separated}
+use Rattle.cv_layout.specs.{Lexeme, behind, mark, separated}
 use Rattle.cv_layout.proofs.Printed.{AreWritten, Prints}
 use Rattle.cv_layout.proofs.Single.{is_mark, mark_proper}
 use Rattle.cv_layout.proofs.Splits.{all_front, all_back, all_both, split, headed, ending}

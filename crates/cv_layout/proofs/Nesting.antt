@@ -1,8 +1,6 @@
 -- What is printed nests no deeper than what was read.
 use Rattle.std.proofs.Common.{◌≡◌, ◌≢◌, ℕ, zero, suc, pred, ◌≤◌, List, [], ◌∷◌, ◌++◌, refl, sym, ap, ◌∙◌, subst, arith}
-use Rattle.easl_model.specs.Brackets.{turned, level_after, StaysShallow}
-use Rattle.easl_model.specs.Lexemes.{word_of, IsMark, IsKey, IsName}
-use Rattle.easl_model.specs.Tokens.{IsToken, mark_text}
+use Rattle.easl_model.specs.{IsKey, IsMark, IsName, IsToken, StaysShallow, level_after, mark_text, turned, word_of}
 use Rattle.easl_model.specs.declared.token.Key.{Key}
 use Rattle.easl_model.specs.declared.token.Kind.{Kind}
 use Rattle.easl_model.specs.declared.token.Kind.TheVariants as kind
@@ -11,11 +9,9 @@ use Rattle.easl_model.specs.declared.token.Mark.TheVariants as sign
 use Rattle.easl_model.specs.declared.token.Token.{Token}
 use Rattle.easl_model.specs.declared.tree.Word.{Word}
 use Rattle.easl_model.proofs.Pieces.{one_token}
-use Rattle.cv_layout.specs.Layout.{Lexeme, key, mark, word}
-use Rattle.cv_layout.specs.Tokens.{IsOf, AreOf}
+use Rattle.cv_layout.specs.{AreOf, IsOf, Lexeme, key, mark, named, word}
 use Rattle.cv_layout.proofs.Printed.{IsWritten}
 use Rattle.cv_layout.proofs.Single.{is_mark, is_key}
-use Rattle.cv_layout.specs.Words.{named}
 
 -- how many brackets are unclosed behind one more token that is printed
 abbrev pub level_by : ℕ → Lexeme → ℕ

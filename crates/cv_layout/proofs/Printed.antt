@@ -2,11 +2,9 @@
 use Rattle.std.proofs.Common.{◌≡◌, ℕ, true, List}
 use Rattle.std.specs.List.{AllByRecursion}
 use Rattle.std.specs.Str.{all_scalars}
-use Rattle.easl_model.specs.Lexemes.{word_of}
-use Rattle.easl_model.specs.Tokens.{IsToken}
+use Rattle.easl_model.specs.{IsToken, word_of}
 use Rattle.easl_model.specs.declared.token.Token.{Token}
-use Rattle.cv_layout.specs.Layout.{Lexeme}
-use Rattle.cv_layout.specs.Tokens.{IsProper, AreOf}
+use Rattle.cv_layout.specs.{AreOf, IsProper, Lexeme}
 
 -- the token has the characters that it was cut from
 pub record IsWritten (text : List ℕ) (t : Token) : Type 0 where

@@ -1,17 +1,14 @@
 -- What single tokens are that are written so.
 use Rattle.std.proofs.Common.{◌≡◌, ℕ, true, List, IsTrue, refl, sym, ap, ◌∙◌, subst}
 use Rattle.std.specs.Str.{all_scalars}
-use Rattle.easl_model.specs.Lexemes.{word_of, is_literal, IsMark, IsKey, IsName, IsLiteral}
-use Rattle.easl_model.specs.Tokens.{IsToken, key_text, mark_text}
+use Rattle.easl_model.specs.{IsKey, IsLiteral, IsMark, IsName, IsToken, is_literal, key_text, mark_text, word_of}
 use Rattle.easl_model.specs.declared.token.Key.{Key}
 use Rattle.easl_model.specs.declared.token.Kind.TheVariants as kind
 use Rattle.easl_model.specs.declared.token.Mark.{Mark}
 use Rattle.easl_model.specs.declared.token.Token.{Token}
 use Rattle.easl_model.specs.declared.tree.Word.{Word}
 use Rattle.easl_model.proofs.Pieces.{one_token}
-use Rattle.cv_layout.specs.Layout.{key, mark}
-use Rattle.cv_layout.specs.Tokens.{IsProper, IsOf}
-use Rattle.cv_layout.specs.Words.{named, nowhere, bare_word}
+use Rattle.cv_layout.specs.{IsOf, IsProper, bare_word, key, mark, named, nowhere}
 use Rattle.cv_layout.proofs.Printed.{IsWritten}
 
 pub is_mark : (text : List ℕ) (m : Mark) (t : Token) → IsOf text t (mark m) → IsMark m t

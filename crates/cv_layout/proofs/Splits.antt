@@ -2,8 +2,7 @@
 use Rattle.std.proofs.Common.{◌≡◌, ℕ, List, [], ◌∷◌, ◌++◌, refl, ap}
 use Rattle.std.specs.List.{AllByRecursion}
 use Rattle.easl_model.specs.declared.token.Token.{Token}
-use Rattle.cv_layout.specs.Layout.{Lexeme}
-use Rattle.cv_layout.specs.Tokens.{IsOf, AreOf}
+use Rattle.cv_layout.specs.{AreOf, IsOf, Lexeme}
 
 pub all_front : {A : Type 0} (P : A → Type 0) (xs ys : List A) → AllByRecursion P (xs ++ ys) → AllByRecursion P xs
 all_front P [] ys a = tt

@@ -5,19 +5,14 @@ use Rattle.std.specs.Str.{IsCharBoundary}
 use Rattle.std.proofs.lemmas.Bool.Decides.{nat_tests}
 use Rattle.std.proofs.lemmas.List.Elements.{All-head, All-tail}
 use Rattle.std.proofs.lemmas.Str.{IsUtf8-between, IsUtf8-nil, scalars-chars}
-use Rattle.easl_model.specs.Lexemes.{may_cut, bytes_of, word_of}
-use Rattle.easl_model.specs.Tokens.{IsToken, AreTokens}
+use Rattle.easl_model.specs.{AreTokens, IsToken, bytes_of, may_cut, word_of}
 use Rattle.easl_model.specs.declared.token.Token.{Token}
 use Rattle.easl_model.specs.declared.token.Tokens.{Tokens}
-use Rattle.easl_model.proofs.Written.{tokens_are_written}
+use Rattle.easl_model.proofs.Written.{both, tokens_are_written}
 use Rattle.cv_layout.proofs.Printed.{AreWritten}
 
 cut_there : (text : List ℕ) (at : ℕ) → may_cut text at ≡ true → IsCharBoundary text at
 cut_there text at h = (grind (arith, nat_tests), λ l m. grind (arith, nat_tests))
-
-both : (a b : Bool) → (a && b) ≡ true → (a ≡ true) × (b ≡ true)
-both true b e = (refl, e)
-both false b e = cc
 
 in_order : (a b : ℕ) → nat_le a b ≡ true → a ≤ b
 in_order a b h = grind (arith, nat_tests)

@@ -1,6 +1,6 @@
 -- How tokens are laid out on lines. The layout is this project's own.
 use Rattle.std.specs.Prelude.{ℕ, suc, zero, Bool, true, false, ◌||◌, List, [], ◌∷◌, ◌++◌, codes}
-use Rattle.easl_model.specs.Tokens.{key_text, mark_text}
+use Rattle.easl_model.specs.{key_text, mark_text}
 use Rattle.easl_model.specs.declared.token.Key.{Key}
 use Rattle.easl_model.specs.declared.token.Mark.{Mark}
 use Rattle.easl_model.specs.declared.token.Mark.TheVariants as sign

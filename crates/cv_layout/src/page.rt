@@ -2,9 +2,8 @@
 ghost use Rattle.std.specs.Prelude.{◌≡◌, ℕ, List, [], ◌++◌, codes, OnOk, encode_utf8_all, if◌then◌else◌};
 ghost use Rattle.easl_model.specs.declared.token.Key.{Key};
 ghost use Rattle.easl_model.specs.Tokens as written;
-ghost use Rattle.cv_layout.specs.Layout.{before_next, between, indent};
+ghost use Rattle.cv_layout.specs.{before_next, between, ended, indent, put, started};
 ghost use Rattle.cv_layout.specs.Layout as laid;
-ghost use Rattle.cv_layout.specs.Page.{put, started, ended};
 ghost use Rattle.cv_layout.specs.declared.page.Before.TheVariants as before;
 
 use easl_model::{Key, Mark, Name};

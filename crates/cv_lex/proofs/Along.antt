@@ -6,7 +6,7 @@ use Rattle.easl_model.specs.declared.place.Place.{Place}
 use Rattle.easl_model.specs.declared.token.Kind.{Kind}
 use Rattle.easl_model.specs.declared.token.Token.{Token}
 use Rattle.easl_model.specs.declared.token.Tokens.{Tokens}
-use Rattle.easl_model.specs.Tokens.{byte_len, place_after, token_at, CutTo, Cut, done, gap, token, IsPart, IsPiece, NoPiece, IsStuckAt}
+use Rattle.easl_model.specs.{Cut, CutTo, IsPart, IsPiece, IsStuckAt, NoPiece, byte_len, done, gap, place_after, token, token_at}
 use Rattle.easl_model.proofs.Cuts.{byte_len-append, parts}
 use Rattle.cv_lex.specs.declared.piece.Piece.{Piece}
 use Rattle.cv_lex.specs.declared.spot.Spot.{Spot}
@@ -19,7 +19,8 @@ use Rattle.cv_lex.proofs.Lists.{take_add}
 pub leads_more : (cs : List ℕ) (a b c : ℕ) (xs ys : List Token) → Leads cs a xs b → Leads cs b ys c → Leads cs a (xs ++ ys) c
 leads_more cs a b c xs ys f g = λ left ts cut. subst (CutTo left (take a cs) (drop a cs)) (sym (append_assoc xs ys ts)) (f left (ys ++ ts) (g left ts cut))
 
-same_token : (k : Kind) (a b c d : ℕ) (p q : Place) → a ≡ b → c ≡ d → p ≡ q → (let T : Token = record { kind = k; start = a; end = c; place = p } in T) ≡ record { kind = k; start = b; end = d; place = q }
+same_token : (k : Kind) (a b c d : ℕ) (p q : Place) → a ≡ b → c ≡ d → p ≡ q
+    → (let T : Token = record { kind = k; start = a; end = c; place = p } in T) ≡ record { kind = k; start = b; end = d; place = q }
 same_token k a b c d p q e f g =
     let with_start : ℕ → Token = λ x. record { kind = k; start = x; end = c; place = p } in
     let with_end : ℕ → Token = λ x. record { kind = k; start = b; end = x; place = p } in
@@ -72,12 +73,14 @@ module _ (text : List ℕ) (spot : Spot) (p : Piece) (next offset : ℕ) (s : Is
     place = g ∙ ap place_after (sym all_before);
   }
 
-pub whole : (cs : List ℕ) (list : List Token) (spot : Spot) → IsSpot cs spot → Leads cs 0 list spot.at → length cs ≤ spot.at → Cut [] cs list × (spot.place ≡ place_after cs)
+pub whole : (cs : List ℕ) (list : List Token) (spot : Spot) → IsSpot cs spot → Leads cs 0 list spot.at → length cs ≤ spot.at
+    → Cut [] cs list × (spot.place ≡ place_after cs)
 whole cs list spot s l e =
     let end : CutTo [] (take spot.at cs) (drop spot.at cs) [] = subst (λ x. CutTo [] (take spot.at cs) x []) (sym (drop_all spot.at cs e)) (done (take spot.at cs)) in
     (subst (Cut [] cs) (append-nil list) (l [] [] end), s.place ∙ ap place_after (take_all spot.at cs e))
 
-stuck : (cs : List ℕ) (list : List Token) (spot : Spot) (place : Place) → IsSpot cs spot → Leads cs 0 list spot.at → spot.at < length cs → NoPiece (drop spot.at cs) → place ≡ spot.place → IsStuckAt cs place
+stuck : (cs : List ℕ) (list : List Token) (spot : Spot) (place : Place) → IsSpot cs spot → Leads cs 0 list spot.at → spot.at < length cs
+    → NoPiece (drop spot.at cs) → place ≡ spot.place → IsStuckAt cs place
 stuck cs list spot place s l more none e = record {
   before = take spot.at cs;
   left = drop spot.at cs;
@@ -89,7 +92,8 @@ stuck cs list spot place s l more none e = record {
   place = e ∙ s.place;
 }
 
-pub refused : (cs : List ℕ) (list : List Token) (spot : Spot) (e : TextFault) → IsSpot cs spot → Leads cs 0 list spot.at → spot.at < length cs → RefusesStep e (drop spot.at cs) spot.place → CutAnswers cs (Err e)
+pub refused : (cs : List ℕ) (list : List Token) (spot : Spot) (e : TextFault) → IsSpot cs spot → Leads cs 0 list spot.at → spot.at < length cs
+    → RefusesStep e (drop spot.at cs) spot.place → CutAnswers cs (Err e)
 refused cs list spot (BadToken p) s l more r = stuck cs list spot p s l more r.1 r.0
 refused cs list spot Memory s l more r = tt
 refused cs list spot (NotUtf8 p) s l more r = r
@@ -97,7 +101,10 @@ refused cs list spot (Syntax p) s l more r = r
 refused cs list spot (Limit w p) s l more r = r
 
 -- one more character further
-pub further : (cs : List ℕ) (i character : ℕ) (start place next : Place) → i < length cs → character ≡ get_or cs i character → ((b : List ℕ) → start ≡ place_after b → place ≡ place_after (b ++ take i cs)) → ((b : List ℕ) → place ≡ place_after b → next ≡ place_after (b ++ character ∷ [])) → (b : List ℕ) → start ≡ place_after b → next ≡ place_after (b ++ take (i + 1) cs)
+pub further : (cs : List ℕ) (i character : ℕ) (start place next : Place) → i < length cs → character ≡ get_or cs i character
+    → ((b : List ℕ) → start ≡ place_after b → place ≡ place_after (b ++ take i cs))
+    → ((b : List ℕ) → place ≡ place_after b → next ≡ place_after (b ++ character ∷ [])) → (b : List ℕ) → start ≡ place_after b
+    → next ≡ place_after (b ++ take (i + 1) cs)
 further cs i character start place next h there so_far step b e =
     step (b ++ take i cs) (so_far b e) ∙ ap place_after (append_assoc b (take i cs) (character ∷ []) ∙ ap (λ x. b ++ x) (ap (λ x. take i cs ++ x ∷ []) there ∙ sym (take_more cs i character h)))
 

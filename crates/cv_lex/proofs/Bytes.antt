@@ -3,7 +3,7 @@ use Rattle.std.proofs.Common.{◌≡◌, ℕ, ◌+◌, ◌<◌, ◌≤◌, List,
 use Rattle.std.proofs.Math.Seq.{drop-append_seam}
 use Rattle.std.proofs.lemmas.List.{take_at, take_more}
 use Rattle.std.proofs.lemmas.Str.{encodes-append, length-le-encodes}
-use Rattle.easl_model.specs.Tokens.{byte_len}
+use Rattle.easl_model.specs.{byte_len}
 use Rattle.easl_model.proofs.Cuts.{byte_len-append}
 
 parted : (cs bytes : List ℕ) (n : ℕ) → bytes ≡ encode_utf8_all cs → bytes ≡ encode_utf8_all (take n cs) ++ encode_utf8_all (drop n cs)

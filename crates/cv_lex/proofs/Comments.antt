@@ -6,7 +6,7 @@ use Rattle.std.proofs.lemmas.List.{take_rest, drop-drop, length-take-le}
 use Rattle.std.proofs.lemmas.List.Sums.{prefix_len-le-length}
 use Rattle.std.proofs.lemmas.Option.{slice_get_within}
 use Rattle.easl_model.specs.declared.token.Kind.{Kind}
-use Rattle.easl_model.specs.Tokens.{IsToken, NoPiece, is_white, IsGap, white, line_comment, comment, EndsLine, line_end}
+use Rattle.easl_model.specs.{EndsLine, IsGap, IsToken, NoPiece, comment, is_white, line_comment, line_end, white}
 use Rattle.easl_model.proofs.Pieces.{aligned, not_others}
 use Rattle.easl_model.proofs.Words.{Others, group_at, group_ascii, begins_token, token_some}
 use Rattle.cv_lex.specs.Reading.{slash, star, is_on_line, BeginsWith, IsFront, EndsComment, FindsFirstEnd}
@@ -21,7 +21,8 @@ behind_both : (c d : ℕ) (cs : List ℕ) → behind_two (c ∷ d ∷ cs) ≡ cs
 behind_both c d cs = take_rest (c ∷ d ∷ cs) 2
 
 -- a gap that is the first two characters and some of the rest
-front_two : (c d : ℕ) (cs : List ℕ) (n size : ℕ) → size ≡ suc (suc n) → n ≤ length cs → IsGap (c ∷ d ∷ take n cs) (drop n cs) → IsFront (c ∷ d ∷ cs) (record { kind = None; length = size })
+front_two : (c d : ℕ) (cs : List ℕ) (n size : ℕ) → size ≡ suc (suc n) → n ≤ length cs → IsGap (c ∷ d ∷ take n cs) (drop n cs)
+    → IsFront (c ∷ d ∷ cs) (record { kind = None; length = size })
 front_two c d cs n size e h g = subst (λ m. IsFront (c ∷ d ∷ cs) (record { kind = None; length = m })) (sym e) (record {
   some = omega arith;
   within = omega arith;
@@ -43,7 +44,8 @@ line_gap : (c d : ℕ) (cs rest : List ℕ) → c ≡ slash → d ≡ slash → 
 line_gap c d cs rest e f h s =
     subst (λ x. IsGap (x ∷ d ∷ cs) rest) (sym e) (subst (λ x. IsGap (slash ∷ x ∷ cs) rest) (sym f) (line_comment cs rest (all_on_line cs h) (ends_line rest s)))
 
-pub line_front : (text : List ℕ) (n : ℕ) → BeginsWith (λ c. c == slash) text → slice_get text 1 ≡ Some slash → n ≡ prefix_len is_on_line (behind_two text) → IsFront text (record { kind = None; length = 2 + n })
+pub line_front : (text : List ℕ) (n : ℕ) → BeginsWith (λ c. c == slash) text → slice_get text 1 ≡ Some slash
+    → n ≡ prefix_len is_on_line (behind_two text) → IsFront text (record { kind = None; length = 2 + n })
 line_front [] n b s e = absurd b
 line_front (c ∷ []) n b s e = absurd (omega (arith, slice_get_within (c ∷ []) 1 slash s))
 line_front (c ∷ d ∷ cs) n b s e =
@@ -89,7 +91,8 @@ module _ (cs : List ℕ) (n : ℕ) (within : n ≤ length cs) (first : (i : ℕ)
       by (a ∷ []) f g = let same : star ≡ a = cc in differ_last p (take n cs) (f ∙ ap (λ x. take n cs ++ x ∷ []) (sym same))
       by (a ∷ b ∷ m) f g = cc
 
-block_gap : (c d : ℕ) (cs rest : List ℕ) → c ≡ slash → d ≡ star → ((p q : List ℕ) → cs ++ codes "*" ≡ p ++ codes "*/" ++ q → ⊥) → IsGap (c ∷ d ∷ (cs ++ star ∷ slash ∷ [])) rest
+block_gap : (c d : ℕ) (cs rest : List ℕ) → c ≡ slash → d ≡ star → ((p q : List ℕ) → cs ++ codes "*" ≡ p ++ codes "*/" ++ q → ⊥)
+    → IsGap (c ∷ d ∷ (cs ++ star ∷ slash ∷ [])) rest
 block_gap c d cs rest e f h =
     let all : List ℕ = cs ++ star ∷ slash ∷ [] in
     subst (λ x. IsGap (x ∷ d ∷ all) rest) (sym e) (subst (λ x. IsGap (slash ∷ x ∷ all) rest) (sym f) (comment cs rest h))
@@ -102,7 +105,8 @@ next_two cs n e =
     let f : a.0 ≡ slash ∷ b.0 = sym (sym (drop-drop 1 n cs) ∙ ap (drop 1) a.1) ∙ b.1 in
     (b.0, a.1 ∙ ap (λ x. star ∷ x) f)
 
-pub block_front : (text : List ℕ) (n : ℕ) → BeginsWith (λ c. c == slash) text → slice_get text 1 ≡ Some star → FindsFirstEnd (behind_two text) (Some n) → IsFront text (record { kind = None; length = n + 4 })
+pub block_front : (text : List ℕ) (n : ℕ) → BeginsWith (λ c. c == slash) text → slice_get text 1 ≡ Some star
+    → FindsFirstEnd (behind_two text) (Some n) → IsFront text (record { kind = None; length = n + 4 })
 block_front [] n b s f = absurd b
 block_front (c ∷ []) n b s f = absurd (omega (arith, slice_get_within (c ∷ []) 1 star s))
 block_front (c ∷ d ∷ cs) n b s f =
@@ -131,7 +135,8 @@ slash_token k c cs (d ∷ us) rest b t e =
     not_others k (sym (begins_token k d us t) ∙ sym (ap group_at same) ∙ slash_group c b)
 
 -- a gap that begins with a slash is a comment
-slash_gap : (c : ℕ) (cs used rest : List ℕ) → c ≡ slash → IsGap used rest → c ∷ cs ≡ used ++ rest → ((more : List ℕ) × (cs ≡ slash ∷ more)) ⊎ ((ds more : List ℕ) × (cs ≡ star ∷ (ds ++ star ∷ slash ∷ more)))
+slash_gap : (c : ℕ) (cs used rest : List ℕ) → c ≡ slash → IsGap used rest → c ∷ cs ≡ used ++ rest
+    → ((more : List ℕ) × (cs ≡ slash ∷ more)) ⊎ ((ds more : List ℕ) × (cs ≡ star ∷ (ds ++ star ∷ slash ∷ more)))
 slash_gap c cs _ _ s (white d rest h) e =
     let same : d ≡ slash = cc in
     let f : IsTrue (is_white slash) = subst (λ x. IsTrue (is_white x)) same h in

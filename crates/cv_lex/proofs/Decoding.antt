@@ -3,7 +3,7 @@ use Rattle.std.proofs.Common.{◌≡◌, ℕ, ◌≤◌, List, length, take, cha
 use Rattle.std.specs.Str.{IsValidUpTo}
 use Rattle.std.proofs.lemmas.Str.{encodes-chars, length-le-encodes}
 use Rattle.easl_model.specs.declared.place.Place.{Place}
-use Rattle.easl_model.specs.Tokens.{place_after, IsNotUtf8At}
+use Rattle.easl_model.specs.{IsNotUtf8At, place_after}
 
 pub chars_short : (text : List ℕ) → IsUtf8 text → length (chars text) ≤ length text
 chars_short text u = omega (arith, length-le-encodes (chars text), ap length (encodes-chars text u))

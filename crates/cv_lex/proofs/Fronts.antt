@@ -8,14 +8,15 @@ use Rattle.std.proofs.lemmas.List.Sums.{prefix_len-le-length}
 use Rattle.easl_model.specs.declared.token.Kind.{Kind}
 use Rattle.easl_model.specs.declared.token.Kind.TheVariants as kind
 use Rattle.easl_model.specs.declared.token.Mark.{Mark}
-use Rattle.easl_model.specs.Tokens.{mark_text, begins_name, IsWord, IsToken, IsPiece, NoPiece, is_white, IsGap, white, line_comment, comment, quote}
+use Rattle.easl_model.specs.{IsGap, IsPiece, IsToken, IsWord, NoPiece, begins_name, comment, is_white, line_comment, mark_text, quote, white}
 use Rattle.easl_model.proofs.Words.{Marks, group_of, key_is_word, token_some}
 use Rattle.cv_lex.specs.Reading.{slash, begins_other, BeginsWith, IsFront, IsLong, NoLong}
 use Rattle.cv_lex.proofs.Runs.{passes, stops}
 use Rattle.cv_lex.proofs.Longest.{number_longest, mark_of, longer_mark, mark_size, long_mark_longest}
 
 -- a piece that is the first character and those of the rest that pass
-pub front_of : (k : Option Kind) (c : ℕ) (cs : List ℕ) (n : ℕ) → n ≤ length cs → IsPiece k (c ∷ take n cs) (drop n cs) → IsFront (c ∷ cs) (record { kind = k; length = 1 + n })
+pub front_of : (k : Option Kind) (c : ℕ) (cs : List ℕ) (n : ℕ) → n ≤ length cs → IsPiece k (c ∷ take n cs) (drop n cs)
+    → IsFront (c ∷ cs) (record { kind = k; length = 1 + n })
 front_of k c cs n h p = subst (λ m. IsFront (c ∷ cs) (record { kind = k; length = m })) (sym (one-add n)) (record {
   some = omega arith;
   within = omega arith;
@@ -37,7 +38,8 @@ pub length_fits : (p : ℕ → Bool) (text : List ℕ) → 0 < length text → p
 length_fits p [] h = absurd (omega arith)
 length_fits p (c ∷ cs) h = let e : prefix_len p (behind_first (c ∷ cs)) ≡ prefix_len p cs = ap (prefix_len p) (behind_is c cs) in omega (arith, prefix_len-le-length p cs)
 
-pub number_front : (text : List ℕ) (n : ℕ) → BeginsWith is_ascii_digit text → n ≡ prefix_len is_ascii_digit (behind_first text) → IsFront text (record { kind = Some kind.Number; length = 1 + n })
+pub number_front : (text : List ℕ) (n : ℕ) → BeginsWith is_ascii_digit text → n ≡ prefix_len is_ascii_digit (behind_first text)
+    → IsFront text (record { kind = Some kind.Number; length = 1 + n })
 number_front [] n b e = absurd b
 number_front (c ∷ cs) n b e = rw (e, behind_is c cs) (front_of (Some kind.Number) c cs (prefix_len is_ascii_digit cs) (prefix_len-le-length is_ascii_digit cs) (number_longest c _ _ b (passes is_ascii_digit cs) (stops is_ascii_digit cs)))
 
@@ -51,7 +53,8 @@ long_front text m l = record {
     take_two : take 2 text ≡ mark_text m
     take_two = ap (take 2) l.front ∙ take_at (mark_text m) (drop 2 text) 2 l.two
 
-pub short_front : (text : List ℕ) (m : Mark) (first : ℕ) → BeginsWith begins_other text → NoLong text → first ≡ get_or text 0 first → mark_text m ≡ first ∷ [] → IsFront text (record { kind = Some (kind.Mark m); length = 1 })
+pub short_front : (text : List ℕ) (m : Mark) (first : ℕ) → BeginsWith begins_other text → NoLong text → first ≡ get_or text 0 first
+    → mark_text m ≡ first ∷ [] → IsFront text (record { kind = Some (kind.Mark m); length = 1 })
 short_front [] m first b none f e = absurd b
 short_front (c ∷ cs) m first b none f e =
     let spelt : mark_text m ≡ c ∷ [] = e ∙ ap (λ x. x ∷ []) f in
@@ -96,7 +99,8 @@ mark_or_none kind.Text c cs w o t = absurd (eqb-false c quote o.quoted t.0)
 mark_or_none (kind.Key k) c cs w o t = let word : IsWord (c ∷ cs) = subst IsWord (sym t) (key_is_word k) in absurd (both_ways (begins_name c) w word.0)
 mark_or_none (kind.Mark m) c cs w o t = refl
 
-no_token : (k : Kind) (c d : ℕ) (cs us rest : List ℕ) → begins_name c ≡ false → OtherThan c → NoLong (c ∷ cs) → ((m : Mark) → mark_text m ≢ c ∷ []) → c ∷ cs ≡ d ∷ us ++ rest → IsToken k (d ∷ us) → ⊥
+no_token : (k : Kind) (c d : ℕ) (cs us rest : List ℕ) → begins_name c ≡ false → OtherThan c → NoLong (c ∷ cs) → ((m : Mark) → mark_text m ≢ c ∷ [])
+    → c ∷ cs ≡ d ∷ us ++ rest → IsToken k (d ∷ us) → ⊥
 no_token k c d cs us rest w o long short e t =
     let same : d ≡ c = cc in
     let token : IsToken k (c ∷ us) = subst (λ x. IsToken k (x ∷ us)) same t in
@@ -112,7 +116,8 @@ no_token k c d cs us rest w o long short e t =
           long x.0 two rest (ap (λ y. c ∷ y) behind ∙ ap (λ y. y ++ rest) x.1))
     ]
 
-pub no_mark : (text : List ℕ) → BeginsWith begins_other text → BeginsWith (λ c. not (begins_name c)) text → NoLong text → ((m : Mark) → mark_text m ≢ slice_index text 0 ∷ []) → NoPiece text
+pub no_mark : (text : List ℕ) → BeginsWith begins_other text → BeginsWith (λ c. not (begins_name c)) text → NoLong text
+    → ((m : Mark) → mark_text m ≢ slice_index text 0 ∷ []) → NoPiece text
 no_mark [] b w long short k used rest e p = absurd b
 no_mark (c ∷ cs) b w long short None used rest e p = no_gap used rest cs c p e (other c b).white (other c b).slashed
 no_mark (c ∷ cs) b w long short (Some k) [] rest e p = token_some k p.is_token

@@ -7,7 +7,7 @@ use Rattle.easl_model.specs.declared.token.Kind.{Kind}
 use Rattle.easl_model.specs.declared.token.Kind.TheVariants as kind
 use Rattle.easl_model.specs.declared.token.Mark.{Mark}
 use Rattle.easl_model.specs.declared.token.Mark.TheVariants as mark
-use Rattle.easl_model.specs.Tokens.{mark_text, IsWord, EndsQuoted, closed, plain, escaped, IsToken, IsLongest, backslash, quote}
+use Rattle.easl_model.specs.{EndsQuoted, IsLongest, IsToken, IsWord, backslash, closed, escaped, mark_text, plain, quote}
 use Rattle.easl_model.proofs.Words.{Words, Numbers, Quotes, Marks, group_of, begins_token, token_some, key_is_word}
 use Rattle.cv_lex.proofs.Runs.{AllPassing, Stops, no_further}
 
@@ -33,7 +33,8 @@ digits_of : (k : Kind) (c : ℕ) (cs : List ℕ) → group_of k ≡ Numbers → 
 digits_of kind.Number c cs e t = t.1.1
 digits_of k c cs e t = cc
 
-pub number_longest : (c : ℕ) (used rest : List ℕ) → IsTrue (is_ascii_digit c) → AllPassing is_ascii_digit used → Stops is_ascii_digit rest → IsLongest kind.Number (c ∷ used) rest
+pub number_longest : (c : ℕ) (used rest : List ℕ) → IsTrue (is_ascii_digit c) → AllPassing is_ascii_digit used → Stops is_ascii_digit rest
+    → IsLongest kind.Number (c ∷ used) rest
 number_longest c used rest h a s =
     let t : IsToken kind.Number (c ∷ used) = ((λ e. cc), (h, a)) in
     record {

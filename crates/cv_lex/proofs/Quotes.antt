@@ -3,7 +3,7 @@ use Rattle.std.proofs.Common.{◌≡◌, ◌≢◌, ℕ, ◌+◌, ◌≤◌, inl
 use Rattle.std.proofs.lemmas.Bool.{cases_Bool, eqb-true, eqb-false, ne_eqb, cond-true, cond-false}
 use Rattle.std.proofs.lemmas.List.{drop-drop}
 use Rattle.easl_model.specs.declared.token.Kind.TheVariants as kind
-use Rattle.easl_model.specs.Tokens.{EndsQuoted, closed, plain, escaped, NoPiece, backslash, line_end, quote}
+use Rattle.easl_model.specs.{EndsQuoted, NoPiece, backslash, closed, escaped, line_end, plain, quote}
 use Rattle.easl_model.proofs.Words.{Quotes, Others, group_of, group_at, group_ascii, begins_token, token_some}
 use Rattle.easl_model.proofs.Pieces.{gap_some, gap_begins}
 use Rattle.cv_lex.specs.Reading.{BeginsWith, IsFront, escape_size, unit_size, FindsQuoted}
@@ -113,7 +113,8 @@ no_end cs at i u n used rest q e =
 quote_group : (c : ℕ) → IsTrue (c == quote) → group_at c ≡ Quotes
 quote_group c h = ap group_at (eqb-true c quote h) ∙ group_ascii quote (lit< tt)
 
-pub quoted_front : (text : List ℕ) (n : ℕ) → BeginsWith (λ b. b == quote) text → FindsQuoted (behind_first text) (Some n) → IsFront text (record { kind = Some kind.Text; length = 1 + n })
+pub quoted_front : (text : List ℕ) (n : ℕ) → BeginsWith (λ b. b == quote) text → FindsQuoted (behind_first text) (Some n)
+    → IsFront text (record { kind = Some kind.Text; length = 1 + n })
 quoted_front [] n b f = absurd b
 quoted_front (c ∷ cs) n b f =
     let found : FindsQuoted cs (Some n) = subst (λ x. FindsQuoted x (Some n)) (behind_is c cs) f in

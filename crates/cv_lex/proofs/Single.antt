@@ -5,7 +5,7 @@ use Rattle.easl_model.specs.declared.place.Place.{Place}
 use Rattle.easl_model.specs.declared.token.Kind.{Kind}
 use Rattle.easl_model.specs.declared.token.Token.{Token}
 use Rattle.easl_model.specs.declared.token.Tokens.{Tokens}
-use Rattle.easl_model.specs.Tokens.{place_after, CutTo, done, gap, token, IsGap, IsLongest, NoPiece, IsStuckAt, IsBadTokenAt, IsNotUtf8At}
+use Rattle.easl_model.specs.{CutTo, IsBadTokenAt, IsGap, IsLongest, IsNotUtf8At, IsStuckAt, NoPiece, done, gap, place_after, token}
 use Rattle.easl_model.proofs.Cuts.{one_list, bad_has_none, not_utf8_has_none}
 use Rattle.easl_model.proofs.Pieces.{one_longest, one_gap, apart}
 use Rattle.cv_lex.specs.declared.fault.TextFault.{TextFault}
@@ -23,7 +23,8 @@ behind_gap left _ p r _ _ none g (done before) e = absurd (none None p r e g)
 behind_gap left _ p r _ _ none g (gap before q s ts h c) e = moved left before p r q s ts (sym e) (one_gap q s p r h g e) c
 behind_gap left _ p r _ _ none g (token k before q s ts l c) e = absurd (apart k q s p r l.is_token g e)
 
-behind_token : (k : Kind) (left before p r cs : List ℕ) (ts : List Token) → NoPiece left → IsLongest k p r → CutTo left before cs ts → cs ≡ p ++ r → (us : List Token) × CutTo left (before ++ p) r us
+behind_token : (k : Kind) (left before p r cs : List ℕ) (ts : List Token) → NoPiece left → IsLongest k p r → CutTo left before cs ts → cs ≡ p ++ r
+    → (us : List Token) × CutTo left (before ++ p) r us
 behind_token k left _ p r _ _ none l (done before) e = absurd (none (Some k) p r e l)
 behind_token k left _ p r _ _ none l (gap before q s ts h c) e = absurd (apart k p r q s l.is_token h (sym e))
 behind_token k left _ p r _ _ none l (token j before q s ts m c) e = (ts, moved left before p r q s ts (sym e) (one_longest j k q s p r m l e) c)

@@ -8,7 +8,7 @@ use Rattle.easl_model.specs.declared.token.Key.{Key}
 use Rattle.easl_model.specs.declared.token.Key.TheVariants as key
 use Rattle.easl_model.specs.declared.token.Kind.{Kind}
 use Rattle.easl_model.specs.declared.token.Kind.TheVariants as kind
-use Rattle.easl_model.specs.Tokens.{key_text, begins_name, byte_len, IsWord, IsToken}
+use Rattle.easl_model.specs.{IsToken, IsWord, begins_name, byte_len, key_text}
 use Rattle.easl_model.proofs.Words.{Words, group_of}
 use Rattle.cv_lex.specs.Reading.{BeginsWith, IsFront}
 use Rattle.cv_lex.proofs.Bytes.{front_bytes}
@@ -42,7 +42,8 @@ key_bytes key.Continue = refl
 take_first : (c : ℕ) (cs : List ℕ) (n : ℕ) → take (1 + n) (c ∷ cs) ≡ c ∷ take n cs
 take_first c cs n = ap (λ m. take m (c ∷ cs)) (one-add n)
 
-word_front : (k : Kind) (text : List ℕ) (n : ℕ) → BeginsWith begins_name text → n ≡ prefix_len is_xid_continue (behind_first text) → group_of k ≡ Words → IsToken k (take (1 + n) text) → IsFront text (record { kind = Some k; length = 1 + n })
+word_front : (k : Kind) (text : List ℕ) (n : ℕ) → BeginsWith begins_name text → n ≡ prefix_len is_xid_continue (behind_first text)
+    → group_of k ≡ Words → IsToken k (take (1 + n) text) → IsFront text (record { kind = Some k; length = 1 + n })
 word_front k [] n b e g t = absurd b
 word_front k (c ∷ cs) n b e g t =
     let m : ℕ = prefix_len is_xid_continue cs in
@@ -59,10 +60,14 @@ front_is_word (c ∷ cs) n b e =
     let word : IsWord (c ∷ take m cs) = (b, passes is_xid_continue cs) in
     subst IsWord (sym (ap (λ x. take (1 + x) (c ∷ cs)) same ∙ take_first c cs m)) word
 
-pub key_front : (text bytes : List ℕ) (n size : ℕ) (k : Key) → bytes ≡ encode_utf8_all text → BeginsWith begins_name text → n ≡ prefix_len is_xid_continue (behind_first text) → size ≡ byte_len (take (1 + n) text) → key_text k ≡ take size bytes → IsFront text (record { kind = Some (kind.Key k); length = 1 + n })
+pub key_front : (text bytes : List ℕ) (n size : ℕ) (k : Key) → bytes ≡ encode_utf8_all text → BeginsWith begins_name text
+    → n ≡ prefix_len is_xid_continue (behind_first text) → size ≡ byte_len (take (1 + n) text) → key_text k ≡ take size bytes
+    → IsFront text (record { kind = Some (kind.Key k); length = 1 + n })
 key_front text bytes n size k u b e f g =
     word_front (kind.Key k) text n b e refl (encodes_same (take (1 + n) text) (key_text k) (sym (front_bytes text bytes (1 + n) size u f) ∙ sym g ∙ sym (key_bytes k)))
 
-pub name_front : (text bytes : List ℕ) (n size : ℕ) → bytes ≡ encode_utf8_all text → BeginsWith begins_name text → n ≡ prefix_len is_xid_continue (behind_first text) → size ≡ byte_len (take (1 + n) text) → ((k : Key) → key_text k ≢ take size bytes) → IsFront text (record { kind = Some kind.Name; length = 1 + n })
+pub name_front : (text bytes : List ℕ) (n size : ℕ) → bytes ≡ encode_utf8_all text → BeginsWith begins_name text
+    → n ≡ prefix_len is_xid_continue (behind_first text) → size ≡ byte_len (take (1 + n) text) → ((k : Key) → key_text k ≢ take size bytes)
+    → IsFront text (record { kind = Some kind.Name; length = 1 + n })
 name_front text bytes n size u b e f g =
     word_front kind.Name text n b e refl (front_is_word text n b e, λ k h. g k (sym (key_bytes k) ∙ ap encode_utf8_all (sym h) ∙ sym (front_bytes text bytes (1 + n) size u f)))

@@ -1,7 +1,7 @@
 -- What is answered for a text.
 use Rattle.std.specs.Prelude.{◌≡◌, ◌≢◌, List, ℕ, Result, Ok, Err}
 use Rattle.easl_model.specs.declared.token.Tokens.{Tokens}
-use Rattle.easl_model.specs.Tokens.{AreTokens, IsNotUtf8At, IsBadTokenAt}
+use Rattle.easl_model.specs.{AreTokens, IsBadTokenAt, IsNotUtf8At}
 use Rattle.cv_lex.specs.declared.fault.TextFault.{TextFault}
 use Rattle.cv_lex.specs.declared.fault.TextFault.TheVariants.{NotUtf8, BadToken, Syntax, Limit, Memory}
 

@@ -6,7 +6,8 @@ use Rattle.easl_model.specs.declared.token.Kind.{Kind}
 use Rattle.easl_model.specs.declared.token.Mark.{Mark}
 use Rattle.easl_model.specs.declared.token.Token.{Token}
 use Rattle.easl_model.specs.declared.token.Tokens.{Tokens}
-use Rattle.easl_model.specs.Tokens.{mark_text, EndsQuoted, IsPiece, NoPiece, CutTo, Cut, IsStuckAt, IsNotUtf8At, byte_len, is_white, place_after, quote, backslash, line_end}
+use Rattle.easl_model.specs.{Cut, CutTo, EndsQuoted, IsNotUtf8At, IsPiece, IsStuckAt, NoPiece, backslash, byte_len, is_white, line_end, mark_text}
+use Rattle.easl_model.specs.{place_after, quote}
 use Rattle.cv_lex.specs.declared.fault.TextFault.{TextFault}
 use Rattle.cv_lex.specs.declared.fault.TextFault.TheVariants.{NotUtf8, BadToken, Syntax, Limit, Memory}
 use Rattle.cv_lex.specs.declared.piece.Piece.{Piece}

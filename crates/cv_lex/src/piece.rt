@@ -3,7 +3,7 @@ ghost use Rattle.std.specs.Prelude.{◌≡◌, ◌≤◌, [], ◌∷◌, ◌==�
 ghost use Rattle.std.specs.List.{prefix_len};
 ghost use Rattle.std.specs.Char.{is_ascii_digit};
 ghost use Rattle.unicode_ident.specs.Ident.{is_xid_continue};
-ghost use Rattle.easl_model.specs.Tokens.{key_text, mark_text, begins_name, byte_len, is_white, quote};
+ghost use Rattle.easl_model.specs.{begins_name, byte_len, is_white, key_text, mark_text, quote};
 ghost use Rattle.cv_lex.specs.Reading.{slash, begins_other, BeginsWith, IsFront, FindsPiece, FindsWritten, FindsLong};
 
 use crate::comment::comment;

@@ -1,6 +1,6 @@
 //! Reads a text from its front to its end.
 ghost use Rattle.std.specs.Prelude.{◌≡◌, ◌+◌, ◌^◌, ◌<◌, ◌≤◌, ◌++◌, length, take, drop, chars, encode_utf8_all, IsUtf8, IfOk, IfErr, OnOk, All};
-ghost use Rattle.easl_model.specs.Tokens.{place_after, IsPart, OneListOfTokens};
+ghost use Rattle.easl_model.specs.{IsPart, OneListOfTokens, place_after};
 ghost use Rattle.cv_lex.specs.Form.{Answers, OneAnswer};
 ghost use Rattle.cv_lex.specs.Reading.{IsSpot, token_from, Grows, RefusesStep, CutAnswers, RefusesBytes};
 

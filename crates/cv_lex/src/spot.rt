@@ -1,6 +1,6 @@
 //! Where the reading stands in a text.
 ghost use Rattle.std.specs.Prelude.{◌≡◌, ◌+◌, ◌^◌, ◌<◌, ◌≤◌, List, ℕ, [], ◌∷◌, ◌++◌, length, take};
-ghost use Rattle.easl_model.specs.Tokens.{byte_len, place_after};
+ghost use Rattle.easl_model.specs.{byte_len, place_after};
 
 use easl_model::Place;
 

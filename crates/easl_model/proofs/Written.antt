@@ -6,19 +6,18 @@ use Rattle.std.specs.Str.{all_scalars, IsCharBoundary}
 use Rattle.std.proofs.lemmas.Bool.Decides.{nat_tests}
 use Rattle.std.proofs.lemmas.List.Elements.{All-from_recursion}
 use Rattle.std.proofs.lemmas.Str.{encodes-append, chars-encodes, IsCharBoundary-at_seam}
-use Rattle.easl_model.specs.Lexemes.{may_cut, bytes_of, word_of, TokensAreWritten}
-use Rattle.easl_model.specs.Tokens.{IsToken, Cut, done, gap, token, token_at, byte_len}
+use Rattle.easl_model.specs.{Cut, IsToken, TokensAreWritten, byte_len, bytes_of, done, gap, may_cut, token, token_at, word_of}
 use Rattle.easl_model.specs.declared.token.Kind.{Kind}
 use Rattle.easl_model.specs.declared.token.Token.{Token}
 
 may_cut_at : (text : List ℕ) (at : ℕ) → IsCharBoundary text at → may_cut text at ≡ true
 may_cut_at text at h = grind (arith, nat_tests, h.0, h.1)
 
-both : (a b : Bool) → (a && b) ≡ true → (a ≡ true) × (b ≡ true)
+pub both : (a b : Bool) → (a && b) ≡ true → (a ≡ true) × (b ≡ true)
 both true b e = (refl, e)
 both false b e = cc
 
-halves : (cs ds : List ℕ) → all_scalars (cs ++ ds) ≡ true → (all_scalars cs ≡ true) × (all_scalars ds ≡ true)
+pub halves : (cs ds : List ℕ) → all_scalars (cs ++ ds) ≡ true → (all_scalars cs ≡ true) × (all_scalars ds ≡ true)
 halves [] ds e = (refl, e)
 halves (c ∷ cs) ds e =
     let h = both _ (all_scalars (cs ++ ds)) e in
@@ -40,7 +39,8 @@ take_front [] ys = refl
 take_front (x ∷ xs) ys = ap (λ zs. x ∷ zs) (take_front xs ys)
 
 -- the bytes of these characters, which stand behind others and before others
-token_bytes : (k : Kind) (before q s : List ℕ) → all_scalars (before ++ (q ++ s)) ≡ true → bytes_of (encode_utf8_all (before ++ (q ++ s))) (token_at before k q) ≡ encode_utf8_all q
+pub token_bytes : (k : Kind) (before q s : List ℕ) → all_scalars (before ++ (q ++ s)) ≡ true
+    → bytes_of (encode_utf8_all (before ++ (q ++ s))) (token_at before k q) ≡ encode_utf8_all q
 token_bytes k before q s h =
     let b = encode_utf8_all before in
     let c = encode_utf8_all q in

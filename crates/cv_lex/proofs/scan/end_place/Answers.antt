@@ -1,5 +1,5 @@
 use Rattle.std.proofs.Common.{◌≡◌, [], length, chars, refl, ap, ◌∙◌, arith}
-use Rattle.easl_model.specs.Tokens.{place_after}
+use Rattle.easl_model.specs.{place_after}
 use Rattle.cv_lex.proofs.Decoding.{chars_short}
 use Rattle.cv_lex.proofs.scan.end_place.Goals as goal
 

@@ -1,6 +1,6 @@
 use Rattle.std.proofs.Common.{◌≡◌, ◌+◌, ◌-◌, ◌++◌, length, take, drop, encode_utf8_all, sym, ap, ◌∙◌, subst, arith}
 use Rattle.std.proofs.lemmas.List.{take_rest}
-use Rattle.easl_model.specs.Tokens.{byte_len, place_after}
+use Rattle.easl_model.specs.{byte_len, place_after}
 use Rattle.cv_lex.specs.Reading.{IsFront, token_from}
 use Rattle.cv_lex.proofs.Along.{leads_piece, spot_behind}
 use Rattle.cv_lex.proofs.Bytes.{front_within, sizes, rest_bytes, front_at, front_short}
@@ -42,7 +42,8 @@ keep-requires-clause-end c =
 front : (c : goal.In_ok-keep) → IsFront (drop c.args.spot.at c.args.characters.now) c.in-Some.piece
 front c = subst (λ rest. IsFront rest c.in-Some.piece) (take_rest c.args.characters.now c.args.spot.at) c.in-Some.ensures
 
-offset : (c : goal.In_ok-keep) → c.behind-next.result.offset ≡ c.args.spot.offset + byte_len (take c.in-Some.piece.length (drop c.args.spot.at c.args.characters.now))
+offset : (c : goal.In_ok-keep)
+    → c.behind-next.result.offset ≡ c.args.spot.offset + byte_len (take c.in-Some.piece.length (drop c.args.spot.at c.args.characters.now))
 offset c = c.behind-next.ensures.offset ∙ ap (λ rest. c.args.spot.offset + byte_len (take c.in-Some.piece.length rest)) (take_rest c.args.characters.now c.args.spot.at)
 
 pub returns-clause-spot : goal.returns-clause-spot

@@ -1,5 +1,5 @@
 use Rattle.std.proofs.Common.{◌≡◌, take}
-use Rattle.easl_model.specs.Tokens.{byte_len}
+use Rattle.easl_model.specs.{byte_len}
 use Rattle.cv_lex.proofs.spot.byte_len.Given as goal
 
 abbrev pub invariant-loop-character : goal.invariant-loop-character

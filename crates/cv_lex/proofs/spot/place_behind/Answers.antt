@@ -1,6 +1,6 @@
 use Rattle.std.proofs.Common.{◌++◌, ap, ◌∙◌, arith}
 use Rattle.std.proofs.lemmas.List.{take_all}
-use Rattle.easl_model.specs.Tokens.{place_after}
+use Rattle.easl_model.specs.{place_after}
 use Rattle.cv_lex.proofs.Along.{further}
 use Rattle.cv_lex.proofs.spot.place_behind.Goals as goal
 

@@ -1,5 +1,5 @@
 use Rattle.std.proofs.Common.{◌≡◌, ℕ, ◌+◌, ◌≤◌, List, ◌++◌, take}
-use Rattle.easl_model.specs.Tokens.{place_after}
+use Rattle.easl_model.specs.{place_after}
 use Rattle.cv_lex.proofs.spot.place_behind.Given as goal
 
 abbrev pub invariant-loop-character : goal.invariant-loop-character
