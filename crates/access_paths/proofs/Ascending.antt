@@ -7,8 +7,7 @@ use Rattle.std.specs.declared.cmp.Ordering.{Ordering}
 use Rattle.std.specs.declared.cmp.Ordering.TheVariants.{Less, Equal, Greater}
 use Rattle.access_paths.proofs.Members.{head_member, no_member, put_from, put_there, tail_member, which_member}
 use Rattle.access_paths.proofs.Orders.{literals_total}
-use Rattle.access_paths.specs.Adding.{IsAdded, IsPlace}
-use Rattle.access_paths.specs.Terms.{Ascend, compare_literals}
+use Rattle.access_paths.specs.{Ascend, IsAdded, IsPlace, compare_literals}
 use Rattle.access_paths.specs.declared.term.Literal.{Literal}
 
 not_less_itself : (l m : Literal) → l ≡ m → compare_literals l m ≡ Less → ⊥

@@ -5,8 +5,7 @@ use Rattle.std.specs.Cmp.Lexicographic.{slice_cmp}
 use Rattle.std.specs.Ordering.{nat_cmp, bool_cmp, ordering_then}
 use Rattle.std.specs.declared.cmp.Ordering.{Ordering}
 use Rattle.std.specs.declared.cmp.Ordering.TheVariants.{Less, Equal, Greater}
-use Rattle.access_paths.specs.Families.{compare_instances}
-use Rattle.access_paths.specs.Terms.{compare_cubes, compare_literals, compare_terms, term}
+use Rattle.access_paths.specs.{compare_cubes, compare_instances, compare_literals, compare_terms, term}
 use Rattle.access_paths.specs.declared.term.Cube.{Cube}
 use Rattle.access_paths.specs.declared.term.Instance.{Instance}
 use Rattle.access_paths.specs.declared.term.Literal.{Literal}

@@ -13,11 +13,8 @@ use Rattle.access_paths.proofs.Members.{in_map, of_map}
 use Rattle.access_paths.proofs.Orders.{instances_total}
 use Rattle.access_paths.proofs.Places.{literal_back, place_found, put_back}
 use Rattle.access_paths.proofs.Renamed.{keeps_truth}
-use Rattle.access_paths.specs.Arguments.{var}
-use Rattle.access_paths.specs.Families.{HasVariable, IsInstance, compare_instances, place_of}
-use Rattle.access_paths.specs.Laws.{FamilyKeepsTruth, FamilyReturns, OneFamily}
-use Rattle.access_paths.specs.Renaming.{IsRenamed, renamed, renamed_term, variable_in}
-use Rattle.access_paths.specs.Terms.{IsCube, IsLiteral, compare_terms}
+use Rattle.access_paths.specs.{FamilyKeepsTruth, FamilyReturns, HasVariable, IsCube, IsInstance, IsLiteral, IsRenamed, OneFamily, compare_instances}
+use Rattle.access_paths.specs.{compare_terms, place_of, renamed, renamed_term, var, variable_in}
 use Rattle.access_paths.specs.declared.term.Cube.{Cube}
 use Rattle.access_paths.specs.declared.term.Instance.{Instance}
 use Rattle.access_paths.specs.declared.term.Literal.{Literal}

@@ -13,8 +13,7 @@ use Rattle.access_paths.proofs.Orders.{instances_total}
 use Rattle.access_paths.proofs.Permuted.{all_orders, each_order}
 use Rattle.access_paths.proofs.Substituted.{all_members}
 use Rattle.access_paths.proofs.Variables.{few_variables, variables_listed}
-use Rattle.access_paths.specs.Arguments.{AreArguments, HasKnownVariables, IsLeastAmong, orders, var, variables}
-use Rattle.access_paths.specs.Families.{IsFamilyOf, IsInstance, compare_instances}
+use Rattle.access_paths.specs.{AreArguments, HasKnownVariables, IsFamilyOf, IsInstance, IsLeastAmong, compare_instances, orders, var, variables}
 use Rattle.access_paths.specs.declared.term.Cube.{Cube}
 use Rattle.access_paths.specs.declared.term.Instance.{Instance}
 use Rattle.access_paths.specs.declared.term.Var.{Var}

@@ -5,7 +5,7 @@ use Rattle.std.proofs.lemmas.List.Edits.{length-insert}
 use Rattle.std.proofs.lemmas.List.Elements.{Contains-append_cases, Contains-append_left, Contains-push}
 use Rattle.std.specs.List.{insert}
 use Rattle.access_paths.proofs.Members.{Distinct, cons_distinct, head_apart, head_member, in_flat_map, in_map, no_member, none_distinct, of_flat_map, of_map, put_distinct, put_from, put_there, tail_distinct, tail_member, which_member}
-use Rattle.access_paths.specs.Arguments.{below, insertions, orders}
+use Rattle.access_paths.specs.{below, insertions, orders}
 
 pub in_below : (n k : ℕ) → k < n → Contains (below n) k
 in_below zero k less = absurd (omega arith)

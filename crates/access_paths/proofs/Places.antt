@@ -7,10 +7,7 @@ use Rattle.std.specs.Ordering.{is_gt, ordering_reverse}
 use Rattle.std.specs.declared.cmp.Ordering.TheVariants.{Less, Greater}
 use Rattle.access_paths.proofs.Members.{no_member, which_member}
 use Rattle.access_paths.proofs.Orders.{terms_total}
-use Rattle.access_paths.specs.Arguments.{var}
-use Rattle.access_paths.specs.Families.{place_of}
-use Rattle.access_paths.specs.Renaming.{literal, renamed, renamed_term, variable_in}
-use Rattle.access_paths.specs.Terms.{IsLiteral, compare_terms, term}
+use Rattle.access_paths.specs.{IsLiteral, compare_terms, literal, place_of, renamed, renamed_term, term, var, variable_in}
 use Rattle.access_paths.specs.declared.term.Literal.{Literal}
 use Rattle.access_paths.specs.declared.term.Term.{Term}
 use Rattle.access_paths.specs.declared.term.Var.{Var}

@@ -3,13 +3,10 @@ use Rattle.std.proofs.Common.{inl, inr, ◌≡◌, ℕ, zero, suc, ◌<◌, ◌=
 use Rattle.std.specs.Cmp.{first_so, nat_eq_equiv, second_so}
 use Rattle.std.specs.List.{list_all}
 use Rattle.std.specs.Ordering.{is_gt}
-use Rattle.easl_heap.specs.Heap.{Object, get}
+use Rattle.easl_heap.specs.{Object, get}
 use Rattle.access_paths.proofs.Members.{in_map, of_map}
-use Rattle.access_paths.specs.Families.{HasVariable}
-use Rattle.access_paths.specs.Laws.{RenamingKeepsTruth}
-use Rattle.access_paths.specs.Renaming.{IsRenamed, renamed, renamed_term}
-use Rattle.access_paths.specs.Terms.{compare_terms}
-use Rattle.access_paths.specs.Truth.{by_objects, cube_holds, literal_holds, object_of}
+use Rattle.access_paths.specs.{HasVariable, IsRenamed, RenamingKeepsTruth, by_objects, compare_terms, cube_holds, literal_holds, object_of, renamed}
+use Rattle.access_paths.specs.{renamed_term}
 use Rattle.access_paths.specs.declared.term.Cube.{Cube}
 use Rattle.access_paths.specs.declared.term.Literal.{Literal}
 use Rattle.access_paths.specs.declared.term.Term.{Term}
@@ -39,11 +36,13 @@ module _ (heap : List Object) (objects others : List ℕ) (other : ℕ → ℕ) 
   turned : (t u : Term) → by_objects heap objects u t ≡ by_objects heap objects t u
   turned t u = nat_eq_equiv.symm (object_of heap objects u) (object_of heap objects t)
 
-  ordered : (same : Bool) (t u : Term) (b : Bool) → literal_holds (by_objects heap objects) (if b then record { same = same; less = u; more = t } else record { same = same; less = t; more = u }) ≡ (if same then by_objects heap objects t u else not (by_objects heap objects t u))
+  ordered : (same : Bool) (t u : Term) (b : Bool)
+      → literal_holds (by_objects heap objects) (if b then record { same = same; less = u; more = t } else record { same = same; less = t; more = u }) ≡ (if same then by_objects heap objects t u else not (by_objects heap objects t u))
   ordered same t u true = ap (λ one. if same then one else not one) (turned t u)
   ordered same t u false = refl
 
-  literal_same : (l : Literal) → Same l.less.var.0 → Same l.more.var.0 → literal_holds (by_objects heap objects) (renamed other l) ≡ literal_holds (by_objects heap others) l
+  literal_same : (l : Literal) → Same l.less.var.0 → Same l.more.var.0
+      → literal_holds (by_objects heap objects) (renamed other l) ≡ literal_holds (by_objects heap others) l
   literal_same l less more =
       ordered l.same (renamed_term other l.less) (renamed_term other l.more) (is_gt (compare_terms (renamed_term other l.less) (renamed_term other l.more)))
       ∙ ap₂ (λ m n. if l.same then m == n else not (m == n)) (term_same l.less less) (term_same l.more more)

@@ -9,10 +9,7 @@ use Rattle.std.specs.declared.cmp.Ordering.TheVariants.{Less, Equal, Greater}
 use Rattle.access_paths.proofs.Exact.{terms_exact}
 use Rattle.access_paths.proofs.Members.{of_map}
 use Rattle.access_paths.proofs.Orders.{terms_total}
-use Rattle.access_paths.specs.Adding.{AreRenamed, IsAdded}
-use Rattle.access_paths.specs.Families.{HasVariable}
-use Rattle.access_paths.specs.Renaming.{IsRenamed, KeepsApart, literal, renamed, renamed_term}
-use Rattle.access_paths.specs.Terms.{IsLiteral, compare_terms}
+use Rattle.access_paths.specs.{AreRenamed, HasVariable, IsAdded, IsLiteral, IsRenamed, KeepsApart, compare_terms, literal, renamed, renamed_term}
 use Rattle.access_paths.specs.declared.term.Cube.{Cube}
 use Rattle.access_paths.specs.declared.term.Literal.{Literal}
 use Rattle.access_paths.specs.declared.term.Term.{Term}

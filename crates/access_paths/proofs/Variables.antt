@@ -18,10 +18,8 @@ use Rattle.access_paths.proofs.Orders.{terms_total}
 use Rattle.access_paths.proofs.Permuted.{in_below, of_below}
 use Rattle.access_paths.proofs.Places.{one_place}
 use Rattle.access_paths.proofs.Substituted.{all_members}
-use Rattle.access_paths.specs.Arguments.{AreArguments, HasKnownVariables, below, has, var, variables}
-use Rattle.access_paths.specs.Families.{HasVariable, IsInstance, place_of}
-use Rattle.access_paths.specs.Renaming.{IsRenamed, KeepsApart, literal, renamed, renamed_term, variable_in}
-use Rattle.access_paths.specs.Terms.{IsCube, IsLiteral, compare_terms, term}
+use Rattle.access_paths.specs.{AreArguments, HasKnownVariables, HasVariable, IsCube, IsInstance, IsLiteral, IsRenamed, KeepsApart, below, compare_terms, has}
+use Rattle.access_paths.specs.{literal, place_of, renamed, renamed_term, term, var, variable_in, variables}
 use Rattle.access_paths.specs.declared.term.Cube.{Cube}
 use Rattle.access_paths.specs.declared.term.Literal.{Literal}
 use Rattle.access_paths.specs.declared.term.Term.{Term}

@@ -1,7 +1,7 @@
 -- The classes of terms, and families that fit a specification.
 use Rattle.std.specs.Prelude.{◌≡◌, ℕ, ◌<◌, ◌≤◌, List, All, Option, Some, length, map, slice_get}
 use Rattle.easl_model.specs.Form.{Form}
-use Rattle.easl_heap.specs.Full.{FieldsLead}
+use Rattle.easl_heap.specs.{FieldsLead}
 use Rattle.access_paths.specs.declared.term.Family.{Family}
 use Rattle.access_paths.specs.declared.term.Literal.{Literal}
 use Rattle.access_paths.specs.declared.term.Term.{Term}

@@ -1,7 +1,7 @@
 -- Laws on terms and cubes.
 use Rattle.std.specs.Prelude.{◌≡◌, ℕ, List, map, slice_index}
 use Rattle.std.specs.Cmp.{IsTotalOrder}
-use Rattle.easl_heap.specs.Heap.{Object}
+use Rattle.easl_heap.specs.{Object}
 use Rattle.access_paths.specs.Families.{HasVariable, IsFamilyOf, IsInstance}
 use Rattle.access_paths.specs.Renaming.{IsRenamed, variable_in}
 use Rattle.access_paths.specs.Terms.{IsCube, compare_cubes}

@@ -1,7 +1,7 @@
 -- What terms lead to in a heap, and which literals and cubes are true where it is known which terms are one.
 use Rattle.std.specs.Prelude.{◌==◌, ℕ, Bool, not, List, if◌then◌else◌, slice_index}
 use Rattle.std.specs.List.{fold, list_all}
-use Rattle.easl_heap.specs.Heap.{Object, get}
+use Rattle.easl_heap.specs.{Object, get}
 use Rattle.access_paths.specs.declared.term.Literal.{Literal}
 use Rattle.access_paths.specs.declared.term.Term.{Term}
 

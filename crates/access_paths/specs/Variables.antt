@@ -2,8 +2,7 @@
 use Rattle.std.specs.Prelude.{◌≡◌, ◌==◌, ◌/◌, ◌%◌, ℕ, ◌<◌, true, false, List, [], ◌∷◌, ◌++◌, Option, Some, None, drop, if◌then◌else◌, slice_get}
 use Rattle.std.specs.List.{AllZip}
 use Rattle.easl_model.specs.declared.form.Method.{Method}
-use Rattle.easl_heap.specs.Full.{IsGiven}
-use Rattle.easl_heap.specs.Heap.{Object}
+use Rattle.easl_heap.specs.{IsGiven, Object}
 use Rattle.access_paths.specs.declared.term.Family.{Family}
 
 -- something stands at the positions whose bits are set

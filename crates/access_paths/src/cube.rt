@@ -1,7 +1,7 @@
 //! The order of cubes.
 ghost use Rattle.std.specs.Prelude.{◌≡◌};
 ghost use Rattle.std.specs.Cmp.Lexicographic.{slice_cmp};
-ghost use Rattle.access_paths.specs.Terms.{compare_cubes, compare_literals};
+ghost use Rattle.access_paths.specs.{compare_cubes, compare_literals};
 
 use crate::term::{Cube, Literal};
 use sqlite_items::at;

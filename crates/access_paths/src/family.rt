@@ -2,11 +2,9 @@
 ghost use Rattle.std.specs.Prelude.{◌≡◌, ◌≤◌, All, length, map, slice_index, IfOk, if◌then◌else◌};
 ghost use Rattle.std.specs.List.{list_any};
 ghost use Rattle.std.specs.Ordering.{is_lt};
-ghost use Rattle.access_paths.specs.Arguments.{AreArguments, HasKnownVariables, IsLeastAmong, below, var, variables};
+ghost use Rattle.access_paths.specs.{AreArguments, HasKnownVariables, IsCube, IsFamilyOf, IsInstance, IsLeastAmong, below, place_of, var, variables};
 ghost use Rattle.access_paths.specs.Arguments as told;
-ghost use Rattle.access_paths.specs.Families.{IsFamilyOf, IsInstance, place_of};
 ghost use Rattle.access_paths.specs.Families as families;
-ghost use Rattle.access_paths.specs.Terms.{IsCube};
 
 use crate::cube::cmp_cube;
 use crate::permutations::orders;

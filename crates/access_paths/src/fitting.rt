@@ -1,7 +1,7 @@
 //! Whether a family fits a specification.
 ghost use Rattle.std.specs.Prelude.{◌≡◌, ◌<◌, ℕ, List, Some, All, IsTrue, MatchOption, length, map};
-ghost use Rattle.easl_heap.specs.Full.{FieldsLead};
-ghost use Rattle.access_paths.specs.Fitting.{Fits, IsLiteralOf, IsTermOf};
+ghost use Rattle.easl_heap.specs.{FieldsLead};
+ghost use Rattle.access_paths.specs.{Fits, IsLiteralOf, IsTermOf};
 
 use crate::term::{Family, Literal, Term};
 use easl_model::CheckedSpec;

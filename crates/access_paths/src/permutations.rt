@@ -1,7 +1,7 @@
 //! The orders in which variables can be listed.
 ghost use Rattle.std.specs.Prelude.{◌≡◌, ◌++◌, ◌≤◌, insert, length, IfOk, OnOk};
 ghost use Rattle.std.specs.List.{flat_map};
-ghost use Rattle.access_paths.specs.Arguments.{insertions};
+ghost use Rattle.access_paths.specs.{insertions};
 ghost use Rattle.access_paths.specs.Arguments as told;
 
 use crate::term::Var;

@@ -1,10 +1,7 @@
 //! Other variables in the place of a cube's own.
 ghost use Rattle.std.specs.Prelude.{◌≡◌, ℕ, ◌<◌, Some, Contains, length, slice_get, IfSome, IfNone, IfOk, OnOk};
-ghost use Rattle.access_paths.specs.Adding.{IsAdded, IsPlace};
-ghost use Rattle.access_paths.specs.Families.{HasVariable};
-ghost use Rattle.access_paths.specs.Renaming.{renamed_term, variable_in, KeepsApart, IsRenamed};
+ghost use Rattle.access_paths.specs.{Ascend, HasVariable, IsAdded, IsPlace, IsRenamed, KeepsApart, renamed_term, variable_in};
 ghost use Rattle.access_paths.specs.Renaming as told;
-ghost use Rattle.access_paths.specs.Terms.{Ascend};
 
 use crate::term::{Cube, Literal, Term, Var};
 use cv_base::{List, Memory};

@@ -45,7 +45,7 @@ impl Eq for Fields {
 
 impl Hash for Fields {
     ghost use Rattle.std.specs.Hash as fed;
-    ghost use Rattle.access_paths.specs.Fed.{numbers_fed_alike};
+    ghost use Rattle.access_paths.specs.{numbers_fed_alike};
 
     ghost hash_input = { fed.slice fed.u32 };
 
@@ -101,7 +101,7 @@ pub struct Term {
 
 impl Term {
     ghost use Rattle.std.specs.Prelude.{◌≡◌, [], IfOk};
-    ghost use Rattle.access_paths.specs.Terms.{field, compare_terms};
+    ghost use Rattle.access_paths.specs.{compare_terms, field};
     ghost use Rattle.access_paths.specs.Terms as told;
 
     /// The variable of this number. It takes no memory.
@@ -160,7 +160,7 @@ pub struct Literal {
 
 impl Literal {
     ghost use Rattle.std.specs.Prelude.{◌≡◌};
-    ghost use Rattle.access_paths.specs.Terms.{compare_literals};
+    ghost use Rattle.access_paths.specs.{compare_literals};
 
     /// The order of literals: by first term, then second term, `==` first.
     pub fn compare(&self, other: &Literal) -> Ordering

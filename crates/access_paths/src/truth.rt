@@ -1,6 +1,6 @@
 //! What terms lead to in a heap, and whether literals and cubes are true there.
 ghost use Rattle.std.specs.Prelude.{◌≡◌, slice_index};
-ghost use Rattle.access_paths.specs.Truth.{by_objects, object_of};
+ghost use Rattle.access_paths.specs.{by_objects, object_of};
 ghost use Rattle.access_paths.specs.Truth as told;
 
 use crate::term::{Cube, Literal, Term};

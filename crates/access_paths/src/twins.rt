@@ -5,7 +5,7 @@ use cv_fix::Twin;
 use std::alloc::Global;
 
 impl Twin for Literal {
-    ghost use Rattle.access_paths.specs.Same.{same_literal};
+    ghost use Rattle.access_paths.specs.{same_literal};
 
     ghost exact = { same_literal };
 
@@ -19,7 +19,7 @@ impl Twin for Literal {
 }
 
 impl Twin for Cube {
-    ghost use Rattle.access_paths.specs.Same.{same_cube};
+    ghost use Rattle.access_paths.specs.{same_cube};
 
     ghost exact = { same_cube };
 
@@ -31,7 +31,7 @@ impl Twin for Cube {
 }
 
 impl Twin for Family {
-    ghost use Rattle.access_paths.specs.Same.{same_family};
+    ghost use Rattle.access_paths.specs.{same_family};
 
     ghost exact = { same_family };
 

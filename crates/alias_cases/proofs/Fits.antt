@@ -5,8 +5,8 @@ use Rattle.std.proofs.Math.ListN.{get_or-append}
 use Rattle.std.proofs.Math.Seq.{get_or-append_seam}
 use Rattle.std.proofs.lemmas.Bool.{and_parts, and_from, cases_eq}
 use Rattle.std.proofs.lemmas.Option.{get_or_from_slice_get, slice_get_within}
-use Rattle.case_model.specs.Configurations.{Joined}
-use Rattle.alias_cases.specs.Levels.{fitting_blocks, fitting_by, is_alike, led_to, open_blocks}
+use Rattle.case_model.specs.{Joined}
+use Rattle.alias_cases.specs.{fitting_blocks, fitting_by, is_alike, led_to, open_blocks}
 use Rattle.alias_cases.specs.declared.steps.Step.{Step}
 use Rattle.alias_cases.proofs.Arranged.{IsArranged, IsLadder, next_number}
 use Rattle.alias_cases.proofs.Lists.{IsIn, Rises}
@@ -103,7 +103,8 @@ module _ (steps : List (Option Step)) (classes : List ℕ) (ladder : IsLadder st
       along_fields = λ k l s t h i ks lt field joined. fields_same k l s t (cases_eq k n) (cases_eq l n) h i ks lt field joined;
     }
       where
-        classes_same : (i j : ℕ) → (i ≡ n) ⊎ (i ≡ n → ⊥) → (j ≡ n) ⊎ (j ≡ n → ⊥) → i < suc n → j < suc n → Joined (bs ++ b ∷ []) i j → slice_index classes i ≡ slice_index classes j
+        classes_same : (i j : ℕ) → (i ≡ n) ⊎ (i ≡ n → ⊥) → (j ≡ n) ⊎ (j ≡ n → ⊥) → i < suc n → j < suc n → Joined (bs ++ b ∷ []) i j
+            → slice_index classes i ≡ slice_index classes j
         classes_same i j (inl e) (inl f) h k joined = ap (slice_index classes) (e ∙ sym f)
         classes_same i j (inl e) (inr f) h k joined =
             let last : slice_index bs j ≡ b = sym (before j (omega arith)) ∙ sym joined ∙ ap (slice_index (bs ++ b ∷ [])) e ∙ here in
@@ -115,7 +116,8 @@ module _ (steps : List (Option Step)) (classes : List ℕ) (ladder : IsLadder st
             was.one_class i j (omega arith) (omega arith) (sym (before i (omega arith)) ∙ joined ∙ before j (omega arith))
 
         -- the shorter terms stand before
-        joined_before : (k l : ℕ) (s t : Step) → k < suc n → l < suc n → slice_get steps k ≡ Some (Some s) → slice_get steps l ≡ Some (Some t) → Joined (bs ++ b ∷ []) s.shorter t.shorter → Joined bs s.shorter t.shorter
+        joined_before : (k l : ℕ) (s t : Step) → k < suc n → l < suc n → slice_get steps k ≡ Some (Some s) → slice_get steps l ≡ Some (Some t)
+            → Joined (bs ++ b ∷ []) s.shorter t.shorter → Joined bs s.shorter t.shorter
         joined_before k l s t h i ks lt joined =
             let ks' = ladder.earlier k s ks in
             let lt' = ladder.earlier l t lt in
@@ -124,7 +126,8 @@ module _ (steps : List (Option Step)) (classes : List ℕ) (ladder : IsLadder st
         step_is : (k : ℕ) (s : Step) → k ≡ n → slice_get steps k ≡ Some (Some s) → own ≡ Some s
         step_is k s e ks = let both : Some own ≡ Some (Some s) = sym there ∙ ap (slice_get steps) (sym e) ∙ ks in cc
 
-        fields_same : (k l : ℕ) (s t : Step) → (k ≡ n) ⊎ (k ≡ n → ⊥) → (l ≡ n) ⊎ (l ≡ n → ⊥) → k < suc n → l < suc n → slice_get steps k ≡ Some (Some s) → slice_get steps l ≡ Some (Some t)
+        fields_same : (k l : ℕ) (s t : Step) → (k ≡ n) ⊎ (k ≡ n → ⊥) → (l ≡ n) ⊎ (l ≡ n → ⊥) → k < suc n → l < suc n
+            → slice_get steps k ≡ Some (Some s) → slice_get steps l ≡ Some (Some t)
             → s.field ≡ t.field → Joined (bs ++ b ∷ []) s.shorter t.shorter → Joined (bs ++ b ∷ []) k l
         fields_same k l s t (inl e) (inl f) h i ks lt field joined = ap (slice_index (bs ++ b ∷ [])) (e ∙ sym f)
         fields_same k l s t (inl e) (inr f) h i ks lt field joined =
@@ -231,13 +234,15 @@ module _ (steps : List (Option Step)) (classes : List ℕ) (ladder : IsLadder st
             inl (sym (get_or_from_slice_get bs lead.j c 0 lead.block) ∙ suits.led lead.j s lead.step e (omega (arith, in_it, long)) lead.at lead.alike)
 
   -- with a block that fits, a configuration of the first terms is one with the next term too
-  pub fits-arranged : (bs : List ℕ) (b : ℕ) → IsArranged steps classes n bs → IsIn b (fitting_blocks steps classes own (slice_index classes n) bs) → IsArranged steps classes (suc n) (bs ++ b ∷ [])
+  pub fits-arranged : (bs : List ℕ) (b : ℕ) → IsArranged steps classes n bs → IsIn b (fitting_blocks steps classes own (slice_index classes n) bs)
+      → IsArranged steps classes (suc n) (bs ++ b ∷ [])
   fits-arranged bs b was has = suits-arranged bs b was.as_many was (fits-suits bs b was.as_many was own refl has)
 
   pub arranged-before : (bs : List ℕ) (b : ℕ) → length bs ≡ n → IsArranged steps classes (suc n) (bs ++ b ∷ []) → IsArranged steps classes n bs
   arranged-before bs b long is = arranged-front bs b long is
 
-  pub arranged-fits : (bs : List ℕ) (b : ℕ) → length bs ≡ n → IsArranged steps classes (suc n) (bs ++ b ∷ []) → IsIn b (fitting_blocks steps classes own (slice_index classes n) bs)
+  pub arranged-fits : (bs : List ℕ) (b : ℕ) → length bs ≡ n → IsArranged steps classes (suc n) (bs ++ b ∷ [])
+      → IsIn b (fitting_blocks steps classes own (slice_index classes n) bs)
   arranged-fits bs b long is = suits-fits bs b long (arranged-front bs b long is) (arranged-suits bs b long is) own refl
 
 module _ (steps : List (Option Step)) (classes : List ℕ) (class : ℕ) (bs : List ℕ) where

@@ -6,12 +6,12 @@ use Rattle.std.specs.declared.cmp.Ordering.{Ordering}
 use Rattle.std.specs.declared.cmp.Ordering.TheVariants.{Less, Equal, Greater}
 use Rattle.std.proofs.lemmas.List.{take_all, take_more}
 use Rattle.std.proofs.lemmas.List.Elements.{Contains-append_cases, Contains-append_left, Contains-append_right, Contains-push}
-use Rattle.access_paths.specs.Terms.{compare_terms, field, term}
+use Rattle.access_paths.specs.{compare_terms, field, term}
 use Rattle.access_paths.specs.declared.term.Term.{Term}
 use Rattle.access_paths.proofs.Orders.{terms_total}
-use Rattle.case_model.specs.TermLists.{AreTermsOf, IsPrefix}
+use Rattle.case_model.specs.{AreTermsOf, IsPrefix}
 use Rattle.case_model.proofs.Terms.{same_term}
-use Rattle.alias_cases.specs.Gathering.{Gathers, inserted, put_by}
+use Rattle.alias_cases.specs.{Gathers, inserted, put_by}
 use Rattle.alias_cases.proofs.Lists.{IsIn, Rises, contains-in, each-from, each-in, in-contains, pairs-rises, rises-pairs}
 
 abbrev IsBelow : Term → Term → Type 0
@@ -35,7 +35,8 @@ inserted-has : (t : Term) (us : List Term) (x : Term) → (x ≡ t) ⊎ IsIn x u
 inserted-has t [] x h = ⊎_elim (λ (e : x ≡ t). inl (sym e)) (λ (i : ⊥). absurd i) h
 inserted-has t (u ∷ us) x h = by (compare_terms t u) refl h (inserted-has t us x)
   where
-    by : (o : Ordering) → compare_terms t u ≡ o → (x ≡ t) ⊎ IsIn x (u ∷ us) → ((x ≡ t) ⊎ IsIn x us → IsIn x (inserted t us)) → IsIn x (put_by o t u us (inserted t us))
+    by : (o : Ordering) → compare_terms t u ≡ o → (x ≡ t) ⊎ IsIn x (u ∷ us) → ((x ≡ t) ⊎ IsIn x us → IsIn x (inserted t us))
+        → IsIn x (put_by o t u us (inserted t us))
     by Less is h rest = ⊎_elim (λ (e : x ≡ t). inl (sym e)) (λ (i : IsIn x (u ∷ us)). inr i) h
     by Equal is h rest = ⊎_elim (λ (e : x ≡ t). inl (sym (e ∙ same_term t u (ap is_eq is)))) (λ (i : IsIn x (u ∷ us)). i) h
     by Greater is h rest =
@@ -146,7 +147,8 @@ pub gathers-nothing : (x : List Term) → Gathers [] x x
 gathers-nothing x = λ asked are. subst (λ l. AreTermsOf l x) (sym (append-nil asked)) are
 
 -- the terms of one question of a tree, and of both that follow
-pub gathers-asked : (t u : Term) (xs ys a b c d e : List Term) → Gathers (t ∷ []) a b → Gathers (u ∷ []) b c → Gathers xs c d → Gathers ys d e → Gathers (t ∷ u ∷ xs ++ ys) a e
+pub gathers-asked : (t u : Term) (xs ys a b c d e : List Term) → Gathers (t ∷ []) a b → Gathers (u ∷ []) b c → Gathers xs c d → Gathers ys d e
+    → Gathers (t ∷ u ∷ xs ++ ys) a e
 gathers-asked t u xs ys a b c d e first second third fourth =
     gathers-both (t ∷ u ∷ []) (xs ++ ys) a c e (gathers-both (t ∷ []) (u ∷ []) a b c first second) (gathers-both xs ys c d e third fourth)
 
@@ -160,7 +162,8 @@ more_so p q t f old us new is same so gathers =
     subst (Gathers (q ∷ []) old) (sym (so ∙ ap (λ y. inserted y us) same))
     (subst (λ y. Gathers (y ∷ []) old (inserted y us)) (sym is) (gathers-more p f old us gathers))
 
-pub prefix_more : (t p q : Term) (i : ℕ) → i < length t.fields → p ≡ term t.var.0 (take i t.fields) → q ≡ field p (slice_index t.fields i) → q ≡ term t.var.0 (take (i + 1) t.fields)
+pub prefix_more : (t p q : Term) (i : ℕ) → i < length t.fields → p ≡ term t.var.0 (take i t.fields) → q ≡ field p (slice_index t.fields i)
+    → q ≡ term t.var.0 (take (i + 1) t.fields)
 prefix_more t p q i within so_far is =
     is ∙ ap (λ y. field y (slice_index t.fields i)) so_far ∙ ap (term t.var.0) (sym (take_more t.fields i 0 within))
 

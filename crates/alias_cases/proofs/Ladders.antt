@@ -9,16 +9,15 @@ use Rattle.std.proofs.lemmas.Bool.{and_from, and_parts, cases_order}
 use Rattle.std.proofs.lemmas.Cmp.{tied_itself}
 use Rattle.std.proofs.lemmas.Option.{get_or_from_slice_get, slice_get_within}
 use Rattle.std.proofs.lemmas.Slice.Zip.{AllZip-long}
-use Rattle.easl_model.specs.Form.{Form, fields_of}
+use Rattle.easl_model.specs.{fields_of}
+use Rattle.easl_model.specs.Form.{Form}
 use Rattle.easl_model.proofs.Items.{zip_at, zip_from}
-use Rattle.easl_heap.specs.Full.{FieldsLead}
-use Rattle.access_paths.specs.Fitting.{IsTermOf}
-use Rattle.access_paths.specs.Terms.{compare_terms, field, term}
+use Rattle.easl_heap.specs.{FieldsLead}
+use Rattle.access_paths.specs.{IsTermOf, compare_terms, field, term}
 use Rattle.access_paths.specs.declared.term.Term.{Term}
 use Rattle.access_paths.proofs.Orders.{terms_total}
-use Rattle.case_model.specs.Configurations.{IsConfiguration}
-use Rattle.case_model.specs.TermLists.{IsTermList}
-use Rattle.alias_cases.specs.Steps.{AreSteps, IsClosed, IsStepTo}
+use Rattle.case_model.specs.{IsConfiguration, IsTermList}
+use Rattle.alias_cases.specs.{AreSteps, IsClosed, IsStepTo}
 use Rattle.alias_cases.specs.declared.steps.Step.{Step}
 use Rattle.alias_cases.proofs.Arranged.{IsArranged, IsLadder}
 
@@ -51,7 +50,8 @@ closed ts classes is t f there =
     (is.terms.holds t).1 (from.0, from.1, (from.2.0, (f ∷ rest.0, rest.1 ∙ append_assoc t.fields (f ∷ []) rest.0)))
 
 -- what is one field shorter is there
-pub step_there : (ts : List Term) (t : Term) (front : List ℕ) (f : ℕ) → IsClosed ts → Contains ts t → t.fields ≡ front ++ f ∷ [] → All (λ u. u ≢ term t.var.0 front) ts → ⊥
+pub step_there : (ts : List Term) (t : Term) (front : List ℕ) (f : ℕ) → IsClosed ts → Contains ts t → t.fields ≡ front ++ f ∷ []
+    → All (λ u. u ≢ term t.var.0 front) ts → ⊥
 step_there ts t front f shut there e none =
     let is : t ≡ field (term t.var.0 front) f = λ i. term t.var.0 (e i) in
     let has = shut (term t.var.0 front) f (subst (Contains ts) is there) in
@@ -108,7 +108,8 @@ module _ (ts : List Term) (ordered : AllPairs (λ t u. compare_terms t u ≡ Les
       apart)
       (cases_order k l)
 
-leads-split : (form : Form) (start : ℕ) (fs : List ℕ) (f end : ℕ) → FieldsLead form start (fs ++ f ∷ []) end → (mid : ℕ) × FieldsLead form start fs mid × (slice_get (fields_of form mid) f ≡ Some end)
+leads-split : (form : Form) (start : ℕ) (fs : List ℕ) (f end : ℕ) → FieldsLead form start (fs ++ f ∷ []) end
+    → (mid : ℕ) × FieldsLead form start fs mid × (slice_get (fields_of form mid) f ≡ Some end)
 leads-split form start [] f end leads = (start, refl, leads.1 ∙ ap Some leads.2)
 leads-split form start (g ∷ fs) f end leads = let rest = leads-split form leads.0 fs f end leads.2 in (rest.0, (leads.0, leads.1, rest.1), rest.2)
 
@@ -120,7 +121,8 @@ leads-one form start (g ∷ fs) a b leads other =
     leads-one form other.0 fs a b (subst (λ c. FieldsLead form c fs a) same leads.2) other.2
 
 -- the class of a term with one field more is the field's in the term's class
-field_class : (form : Form) (variables : List (Option ℕ)) (u : Term) (f d c : ℕ) → IsTermOf form variables u d → IsTermOf form variables (field u f) c → slice_get (fields_of form d) f ≡ Some c
+field_class : (form : Form) (variables : List (Option ℕ)) (u : Term) (f d c : ℕ) → IsTermOf form variables u d → IsTermOf form variables (field u f) c
+    → slice_get (fields_of form d) f ≡ Some c
 field_class form variables u f d c shorter longer =
     let both : Some (Some shorter.start) ≡ Some (Some longer.start) = sym shorter.variable ∙ longer.variable in
     let same : shorter.start ≡ longer.start = cc in
@@ -161,7 +163,8 @@ module _ (ts : List Term) (classes : List ℕ) (is : IsTermList ts classes) (ste
       let c = zip_from (IsTermOf is.form is.variables) ts classes k t is.typed at in
       subst (IsTermOf is.form is.variables t) (sym (get_or_from_slice_get classes k c.0 0 c.1)) c.2
 
-  next_class : (k : ℕ) (s : Step) → slice_get steps k ≡ Some (Some s) → slice_get (fields_of is.form (slice_index classes s.shorter)) s.field ≡ Some (slice_index classes k)
+  next_class : (k : ℕ) (s : Step) → slice_get steps k ≡ Some (Some s)
+      → slice_get (fields_of is.form (slice_index classes s.shorter)) s.field ≡ Some (slice_index classes k)
   next_class k s at =
       let from = step_from k s at in
       field_class is.form is.variables from.shorter s.field (slice_index classes s.shorter) (slice_index classes k)

@@ -9,7 +9,7 @@ use Rattle.std.specs.declared.cmp.Ordering.TheVariants.{Less, Equal, Greater}
 use Rattle.std.proofs.lemmas.Cmp.{nat_cmp_total, tied_itself}
 use Rattle.std.specs.Cmp.{nat_cmp_is}
 use Rattle.std.proofs.lemmas.List.{length-map}
-use Rattle.alias_cases.specs.Levels.{extended, fitting_blocks, next_level}
+use Rattle.alias_cases.specs.{extended, fitting_blocks, next_level}
 use Rattle.alias_cases.specs.declared.steps.Step.{Step}
 use Rattle.alias_cases.proofs.Arranged.{IsArranged, IsBefore, IsLadder, IsLevel}
 use Rattle.alias_cases.proofs.Fits.{arranged-before, arranged-fits, fits-arranged, fitting-rises, fitting-some, pushed}

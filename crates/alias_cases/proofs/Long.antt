@@ -2,11 +2,12 @@
 use Rattle.std.proofs.Common.{◌≡◌, ℕ, zero, suc, ◌<◌, ◌≤◌, true, false, ◌&&◌, List, [], ◌∷◌, ◌++◌, length, Contains, slice_index_or, nat_le, arith, refl, subst, ⊎_elim}
 use Rattle.std.proofs.lemmas.Bool.{and_cases, and_parts, leb-false, leb-true}
 use Rattle.std.proofs.lemmas.List.Elements.{Contains-append_cases, Contains-append_left, Contains-append_right}
-use Rattle.easl_model.specs.Conditions.{Condition, Conditions, Same, Differ, All, Any, none, ◌▸◌}
+use Rattle.easl_model.specs.{Condition}
+use Rattle.easl_model.specs.Conditions.{Conditions, Same, Differ, All, Any, none, ◌▸◌}
 use Rattle.easl_model.specs.declared.form.Reach.{Reach}
 use Rattle.access_paths.specs.declared.term.Term.{Term}
-use Rattle.case_model.specs.TermLists.{HasLongTerm, term_of, terms_of_condition, terms_of_conditions}
-use Rattle.alias_cases.specs.Short.{are_short, is_short}
+use Rattle.case_model.specs.{HasLongTerm, term_of, terms_of_condition, terms_of_conditions}
+use Rattle.alias_cases.specs.{are_short, is_short}
 
 abbrev AreShort : List Term → Type 0
 AreShort ts = (t : Term) → Contains ts t → length t.fields ≤ 6

@@ -8,13 +8,13 @@ use Rattle.std.specs.Option.{option_map_or}
 use Rattle.std.proofs.lemmas.Bool.{cases_order, false_from_ne_true}
 use Rattle.std.proofs.lemmas.Bool.Decides.{eqb_tells}
 use Rattle.std.proofs.lemmas.Nat.Bits.{bit_at_above, bit_at_and, bit_at-lt, bit_at-zero}
-use Rattle.access_paths.specs.Truth.{literal_holds}
+use Rattle.access_paths.specs.{literal_holds}
 use Rattle.access_paths.specs.declared.term.Literal.{Literal}
-use Rattle.case_model.specs.Configurations.{by_blocks}
+use Rattle.case_model.specs.{by_blocks}
 use Rattle.cube_search.specs.Cubes.{IsSet}
 use Rattle.cube_search.specs.Truths.{IsRowOf}
 use Rattle.cube_search.proofs.Bits.{bit_missing}
-use Rattle.alias_cases.specs.Rows.{AreAllSet, AreMet, AreRowsOf, IsChosen, case_count, is_true_at, literal_count, truths_of}
+use Rattle.alias_cases.specs.{AreAllSet, AreMet, AreRowsOf, IsChosen, case_count, is_true_at, literal_count, truths_of}
 use Rattle.alias_cases.specs.declared.case.Cases.{Cases}
 use Rattle.alias_cases.specs.declared.rows.Rows.{Rows}
 

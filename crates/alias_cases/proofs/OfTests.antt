@@ -1,14 +1,15 @@
 -- The terms of clauses, one after another.
 use Rattle.std.proofs.Common.{◌≡◌, ℕ, ◌+◌, ◌<◌, List, [], ◌∷◌, ◌++◌, length, map, flat_map, take, get_or, refl, ap, sym, subst, ◌∙◌, append_assoc, append-nil}
 use Rattle.std.proofs.lemmas.List.{map-append, take_more}
-use Rattle.easl_model.specs.Conditions.{Condition, condition_of, conditions}
+use Rattle.easl_model.specs.{Condition, condition_of, conditions}
 use Rattle.easl_model.specs.declared.form.Test.{Test}
 use Rattle.access_paths.specs.declared.term.Term.{Term}
-use Rattle.case_model.specs.TermLists.{terms_of_condition, terms_of_conditions}
-use Rattle.alias_cases.specs.Gathering.{Gathers}
+use Rattle.case_model.specs.{terms_of_condition, terms_of_conditions}
+use Rattle.alias_cases.specs.{Gathers}
 use Rattle.alias_cases.proofs.Gathered.{gathers-both}
 
-push_terms : (first : ℕ) (cs : List Condition) (c : Condition) → terms_of_conditions first (conditions (cs ++ c ∷ [])) ≡ terms_of_conditions first (conditions cs) ++ terms_of_condition first c
+push_terms : (first : ℕ) (cs : List Condition) (c : Condition)
+    → terms_of_conditions first (conditions (cs ++ c ∷ [])) ≡ terms_of_conditions first (conditions cs) ++ terms_of_condition first c
 push_terms first [] c = append-nil (terms_of_condition first c)
 push_terms first (d ∷ cs) c =
     ap (λ l. terms_of_condition first d ++ l) (push_terms first cs c)

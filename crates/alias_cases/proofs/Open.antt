@@ -3,8 +3,8 @@ use Rattle.std.proofs.Common.{◌≡◌, ℕ, zero, suc, ◌+◌, ◌<◌, ◌�
 use Rattle.std.specs.Prelude.{◌⊎◌, ◌==◌}
 use Rattle.std.specs.List.{AllByRecursion}
 use Rattle.std.proofs.lemmas.Bool.{cases_eq}
-use Rattle.case_model.specs.Configurations.{AreNumbered}
-use Rattle.alias_cases.specs.Levels.{open_blocks}
+use Rattle.case_model.specs.{AreNumbered}
+use Rattle.alias_cases.specs.{open_blocks}
 use Rattle.alias_cases.proofs.Arranged.{next_number}
 use Rattle.alias_cases.proofs.Lists.{IsIn, Rises, each-from, each-in}
 

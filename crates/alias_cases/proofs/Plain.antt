@@ -1,13 +1,14 @@
 -- What the plain tree of each kind of condition and question is.
 use Rattle.std.proofs.Common.{◌≡◌, List, map, ap, sym, ◌∙◌}
-use Rattle.easl_model.specs.Conditions.{Condition, Same, Differ, All, Any, condition_of, conditions}
+use Rattle.easl_model.specs.{Condition, condition_of, conditions}
+use Rattle.easl_model.specs.Conditions.{Same, Differ, All, Any}
 use Rattle.easl_model.specs.Conditions as conditions_of
 use Rattle.easl_model.specs.declared.form.Reach.{Reach}
 use Rattle.easl_model.specs.declared.form.Test.{Test}
 use Rattle.easl_model.specs.declared.form.Test.TheFolds.{fold-roll-Test}
 use Rattle.easl_model.specs.declared.form.Test.TheOpen as layer
 use Rattle.easl_model.specs.declared.form.Test.TheVariants as test
-use Rattle.access_paths.specs.Trees.{Ask, tree_of}
+use Rattle.access_paths.specs.{Ask, tree_of}
 use Rattle.access_paths.specs.Trees as trees
 use Rattle.access_paths.specs.declared.term.Term.{Term}
 use Rattle.access_paths.specs.declared.tree.Tree.{Tree}

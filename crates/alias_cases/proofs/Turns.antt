@@ -5,10 +5,8 @@ use Rattle.std.specs.List.{AllZip}
 use Rattle.std.proofs.lemmas.List.Folds.{length-flat_map-take}
 use Rattle.std.proofs.lemmas.Option.{slice_get-get_or}
 use Rattle.access_paths.specs.declared.term.Term.{Term}
-use Rattle.case_model.specs.Configurations.{AreConfigurations, AreMoreThan}
-use Rattle.case_model.specs.TermLists.{IsTermList}
-use Rattle.alias_cases.specs.Levels.{led_to, next_level, open_blocks}
-use Rattle.alias_cases.specs.Steps.{AreSteps}
+use Rattle.case_model.specs.{AreConfigurations, AreMoreThan, IsTermList}
+use Rattle.alias_cases.specs.{AreSteps, led_to, next_level, open_blocks}
 use Rattle.alias_cases.specs.declared.steps.Step.{Step}
 use Rattle.alias_cases.proofs.Arranged.{IsLevel}
 use Rattle.alias_cases.proofs.Ladders.{as_many_steps, ladder}
@@ -16,7 +14,8 @@ use Rattle.alias_cases.proofs.Levels.{level_next}
 use Rattle.alias_cases.proofs.Whole.{level_many, level_whole}
 
 -- nothing is left where one list is passed
-pub led-end : (bs : List ℕ) (own : Step) (ss : List (Option Step)) (cs : List ℕ) (n : ℕ) → n ≡ min (length ss) (length cs) → led_to bs own (drop n ss) (drop n cs) ≡ None
+pub led-end : (bs : List ℕ) (own : Step) (ss : List (Option Step)) (cs : List ℕ) (n : ℕ) → n ≡ min (length ss) (length cs)
+    → led_to bs own (drop n ss) (drop n cs) ≡ None
 led-end bs own [] cs zero e = refl
 led-end bs own [] cs (suc n) e = absurd (omega (arith, e))
 led-end bs own (s ∷ ss) [] zero e = refl

@@ -5,10 +5,8 @@ use Rattle.std.specs.Ordering.{nat_cmp}
 use Rattle.std.proofs.lemmas.Cmp.{nat_list_cmp_total, tied_itself}
 use Rattle.easl_model.proofs.Items.{item_at}
 use Rattle.access_paths.specs.declared.term.Term.{Term}
-use Rattle.case_model.specs.Configurations.{AreConfigurations, AreMoreThan, IsConfiguration}
-use Rattle.case_model.specs.TermLists.{IsTermList}
-use Rattle.alias_cases.specs.Levels.{next_level}
-use Rattle.alias_cases.specs.Steps.{AreSteps}
+use Rattle.case_model.specs.{AreConfigurations, AreMoreThan, IsConfiguration, IsTermList}
+use Rattle.alias_cases.specs.{AreSteps, next_level}
 use Rattle.alias_cases.specs.declared.steps.Step.{Step}
 use Rattle.alias_cases.proofs.Arranged.{IsArranged, IsBefore, IsLevel}
 use Rattle.alias_cases.proofs.Ladders.{arranged-is, as_many_steps, is-arranged, ladder}
@@ -26,7 +24,8 @@ module _ (ts : List Term) (classes : List ℕ) (is : IsTermList ts classes) (ste
   }
 
   -- where there are more of the first terms, there are more of all
-  pub level_many : (most left n : ℕ) (level : List (List ℕ)) → n + left ≡ length ts → IsLevel steps classes n level → most < length level → AreMoreThan most ts classes
+  pub level_many : (most left n : ℕ) (level : List (List ℕ)) → n + left ≡ length ts → IsLevel steps classes n level → most < length level
+      → AreMoreThan most ts classes
   level_many most zero n level all whole many =
       let e : n ≡ length ts = omega (arith, all) in
       let last = subst (λ k. IsLevel steps classes k level) e whole in

@@ -2,9 +2,9 @@
 use Rattle.std.specs.Prelude.{List, [], ◌∷◌, ◌++◌}
 use Rattle.std.specs.declared.cmp.Ordering.{Ordering}
 use Rattle.std.specs.declared.cmp.Ordering.TheVariants.{Less, Equal, Greater}
-use Rattle.access_paths.specs.Terms.{compare_terms}
+use Rattle.access_paths.specs.{compare_terms}
 use Rattle.access_paths.specs.declared.term.Term.{Term}
-use Rattle.case_model.specs.TermLists.{AreTermsOf}
+use Rattle.case_model.specs.{AreTermsOf}
 
 -- a list of the terms that are asked becomes one of these too
 abbrev pub Gathers : List Term → List Term → List Term → Type 0

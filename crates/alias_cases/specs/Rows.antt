@@ -2,9 +2,9 @@
 use Rattle.std.specs.Prelude.{◌≡◌, ℕ, ◌/◌, ◌%◌, ◌<◌, Bool, true, false, List, [], All, get_or, length, map, slice_get}
 use Rattle.std.specs.List.{AllZip}
 use Rattle.std.specs.Option.{option_map_or}
-use Rattle.access_paths.specs.Truth.{literal_holds}
+use Rattle.access_paths.specs.{literal_holds}
 use Rattle.access_paths.specs.declared.term.Literal.{Literal}
-use Rattle.case_model.specs.Configurations.{by_blocks}
+use Rattle.case_model.specs.{by_blocks}
 use Rattle.cube_search.specs.Cubes.{IsSet}
 use Rattle.cube_search.specs.Truths.{IsRowOf}
 use Rattle.alias_cases.specs.declared.case.Cases.{Cases}

@@ -1,6 +1,7 @@
 -- Conditions whose terms have at most 6 fields.
 use Rattle.std.specs.Prelude.{Bool, true, ◌&&◌, length, nat_le}
-use Rattle.easl_model.specs.Conditions.{Condition, Conditions, Same, Differ, All, Any, none, ◌▸◌}
+use Rattle.easl_model.specs.{Condition}
+use Rattle.easl_model.specs.Conditions.{Conditions, Same, Differ, All, Any, none, ◌▸◌}
 
 abbrev mutual
   pub is_short : Condition → Bool

@@ -1,7 +1,7 @@
 -- How the terms of a list come from one another.
 use Rattle.std.specs.Prelude.{◌≡◌, ℕ, List, [], Contains, Option, Some, None, slice_get}
 use Rattle.std.specs.List.{AllZip}
-use Rattle.access_paths.specs.Terms.{field}
+use Rattle.access_paths.specs.{field}
 use Rattle.access_paths.specs.declared.term.Term.{Term}
 use Rattle.alias_cases.specs.declared.steps.Step.{Step}
 

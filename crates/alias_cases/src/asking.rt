@@ -2,9 +2,9 @@
 ghost use Rattle.std.specs.Prelude.{◌≡◌, ◌<◌, [], Some, true, if◌then◌else◌, length, slice_get, IfOk, IsErrOf, OnOk};
 ghost use Rattle.std.specs.Bool.{OnFalse, OnTrue};
 ghost use Rattle.std.specs.Option.{option_copied};
-ghost use Rattle.access_paths.specs.Trees.{tree_of};
-ghost use Rattle.case_model.specs.TermLists.{AreTermsOf, AreTyped, HasLongTerm, HaveClasses, question_variables, terms_asked, terms_of_clauses, terms_of_tree};
-ghost use Rattle.alias_cases.specs.Gathering.{Gathers};
+ghost use Rattle.access_paths.specs.{tree_of};
+ghost use Rattle.case_model.specs.{AreTermsOf, AreTyped, HasLongTerm, HaveClasses, question_variables, terms_asked, terms_of_clauses, terms_of_tree};
+ghost use Rattle.alias_cases.specs.{Gathers};
 ghost use Rattle.easl_model.specs.declared.form.Method.{Method as MethodForm};
 
 use crate::case::Terms;

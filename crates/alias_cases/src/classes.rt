@@ -1,9 +1,9 @@
 //! The classes that terms lead to.
 ghost use Rattle.std.specs.Prelude.{◌≡◌, if◌then◌else◌, IfOk, map, slice_get, slice_index, unwrap_or};
 ghost use Rattle.std.specs.Option.{option_copied};
-ghost use Rattle.case_model.specs.TermLists.{question_variables};
-ghost use Rattle.easl_model.specs.Form.{fields_of};
-ghost use Rattle.alias_cases.specs.Classes.{class_of_term, start_class};
+ghost use Rattle.case_model.specs.{question_variables};
+ghost use Rattle.easl_model.specs.{fields_of};
+ghost use Rattle.alias_cases.specs.{class_of_term, start_class};
 
 use access_paths::{Family, Term, Var};
 use easl_model::{CheckedSpec, Method};

@@ -1,9 +1,9 @@
 //! The terms of a method's clauses, where slot 0 is `this`.
 ghost use Rattle.std.specs.Prelude.{◌≡◌, [], ◌∷◌, IfOk, OnOk, map};
-ghost use Rattle.case_model.specs.TermLists.{terms_of_condition, terms_of_conditions};
+ghost use Rattle.case_model.specs.{terms_of_condition, terms_of_conditions};
 ghost use Rattle.case_model.specs.TermLists as told;
-ghost use Rattle.easl_model.specs.Conditions.{condition_of, conditions};
-ghost use Rattle.alias_cases.specs.Gathering.{Gathers};
+ghost use Rattle.easl_model.specs.{condition_of, conditions};
+ghost use Rattle.alias_cases.specs.{Gathers};
 ghost use Rattle.alias_cases.specs.Short as short;
 
 use crate::gathering::gather;

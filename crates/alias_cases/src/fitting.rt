@@ -1,6 +1,6 @@
 //! The blocks that the next term of a list may join.
 ghost use Rattle.std.specs.Prelude.{◌≡◌, ◌+◌, slice_index, IfOk};
-ghost use Rattle.alias_cases.specs.Levels.{is_alike, led_to, open_blocks, fitting_blocks};
+ghost use Rattle.alias_cases.specs.{fitting_blocks, is_alike, led_to, open_blocks};
 
 use crate::steps::Step;
 use std::alloc::{AllocError, Global};

@@ -1,8 +1,8 @@
 //! Terms are gathered, with all their prefixes, in order and each once.
 ghost use Rattle.std.specs.Prelude.{◌≡◌, ◌≤◌, [], ◌∷◌, IfSome, MatchOption, OnOk, insert, length};
-ghost use Rattle.access_paths.specs.Trees.{tree_of};
-ghost use Rattle.case_model.specs.TermLists.{terms_of_tree};
-ghost use Rattle.alias_cases.specs.Gathering.{Gathers, inserted};
+ghost use Rattle.access_paths.specs.{tree_of};
+ghost use Rattle.case_model.specs.{terms_of_tree};
+ghost use Rattle.alias_cases.specs.{Gathers, inserted};
 
 use access_paths::{Term, Tree};
 use std::alloc::{AllocError, Global};

@@ -1,8 +1,7 @@
 //! The configurations of a term list, level by level.
 ghost use Rattle.std.specs.Prelude.{◌≡◌, ◌<◌, ◌≤◌, ◌++◌, [], ◌∷◌, length, IfOk, OnOk, IsErrOf};
-ghost use Rattle.alias_cases.specs.Levels.{extended, next_level};
-ghost use Rattle.case_model.specs.Configurations.{AreConfigurations, AreMoreThan};
-ghost use Rattle.case_model.specs.TermLists.{IsTermList};
+ghost use Rattle.alias_cases.specs.{extended, next_level};
+ghost use Rattle.case_model.specs.{AreConfigurations, AreMoreThan, IsTermList};
 
 use crate::case::{Cases, CasesFault, Terms};
 use crate::fitting::fitting_blocks;

@@ -3,10 +3,9 @@ ghost use Rattle.std.specs.Prelude.{◌≡◌, ◌↔◌, ◌==◌, ℕ, ◌<◌
 ghost use Rattle.std.specs.Int.{bit_at};
 ghost use Rattle.access_paths.specs.declared.term.Literal.{Literal};
 ghost use Rattle.case_model.specs.Configurations as list;
-ghost use Rattle.case_model.specs.Configurations.{AreConfigurations};
-ghost use Rattle.case_model.specs.TermLists.{HasTerms, terms_of_cube};
+ghost use Rattle.case_model.specs.{AreConfigurations, HasTerms, terms_of_cube};
 ghost use Rattle.alias_cases.specs.declared.case.Cases.{Cases};
-ghost use Rattle.alias_cases.specs.Rows.{AreAllSet, AreMet, AreRowsOf, IsChosen, case_count, is_true_at, literal_count, truths_of};
+ghost use Rattle.alias_cases.specs.{AreAllSet, AreMet, AreRowsOf, IsChosen, case_count, is_true_at, literal_count, truths_of};
 
 use crate::case::Cases;
 use crate::fitting::block_at;

@@ -1,7 +1,7 @@
 //! How each term of a list comes from the one that is one field shorter.
 ghost use Rattle.std.specs.Prelude.{◌≡◌, ◌≢◌, ◌↔◌, All, Contains, IfNone, IfOk, IfSome, IsTrue, slice_get};
 ghost use Rattle.access_paths.specs.Terms as told;
-ghost use Rattle.alias_cases.specs.Steps.{AreSteps, IsClosed, IsStepTo};
+ghost use Rattle.alias_cases.specs.{AreSteps, IsClosed, IsStepTo};
 
 use access_paths::{Term, Var};
 use std::alloc::{AllocError, Global};

@@ -7,26 +7,21 @@ use Rattle.std.proofs.lemmas.Bool.{cases_eq}
 use Rattle.std.proofs.lemmas.List.{length-map}
 use Rattle.std.proofs.lemmas.List.Elements.{Contains-append_left, Contains-append_right}
 use Rattle.std.proofs.lemmas.Option.{get_or_from_slice_get, slice_get-map}
-use Rattle.easl_model.specs.Conditions.{Condition, Conditions, condition_of, Same, Differ, All, Any, none, ◌▸◌}
+use Rattle.easl_model.specs.{Condition, condition_of}
+use Rattle.easl_model.specs.Conditions.{Conditions, Same, Differ, All, Any, none, ◌▸◌}
 use Rattle.easl_model.specs.Form.{Form}
 use Rattle.easl_model.specs.declared.form.Method.{Method}
 use Rattle.easl_model.specs.declared.form.Reach.{Reach}
 use Rattle.easl_model.proofs.Items.{item_at, zip_from}
-use Rattle.easl_heap.specs.Clause.{holds, first_failing}
+use Rattle.easl_heap.specs.{IsObjectOf, Object, first_failing, get, holds, reached}
 use Rattle.easl_heap.specs.Clause as clause
-use Rattle.easl_heap.specs.Heap.{Object, IsObjectOf, get, reached}
 use Rattle.easl_heap.proofs.Writes.{one_class}
-use Rattle.access_paths.specs.Fitting.{IsTermOf}
-use Rattle.access_paths.specs.Terms.{field}
-use Rattle.access_paths.specs.Trees.{Tree, Leaf, Ask, answer}
-use Rattle.access_paths.specs.Truth.{Equals, by_objects, cube_holds, literal_holds, object_of}
-use Rattle.access_paths.specs.Variables.{arguments_in}
+use Rattle.access_paths.specs.{Ask, Equals, IsTermOf, Leaf, answer, arguments_in, by_objects, cube_holds, field, literal_holds, object_of}
+use Rattle.access_paths.specs.Trees.{Tree}
 use Rattle.access_paths.specs.declared.term.Literal.{Literal}
 use Rattle.access_paths.specs.declared.term.Term.{Term}
-use Rattle.case_model.specs.Care.{all_hold, any_holds, clauses_hold, condition_holds}
-use Rattle.case_model.specs.Configurations.{IsConfiguration, Joined, by_blocks, place_of}
-use Rattle.case_model.specs.HeapCases.{HeapsHaveCases, IsState, case_of}
-use Rattle.case_model.specs.TermLists.{HasTerms, clauses_of, first_variable, term_of, terms_of_condition, terms_of_conditions, terms_of_cube, terms_of_tree}
+use Rattle.case_model.specs.{HasTerms, HeapsHaveCases, IsConfiguration, IsState, Joined, all_hold, any_holds, by_blocks, case_of, clauses_hold, clauses_of}
+use Rattle.case_model.specs.{condition_holds, first_variable, place_of, term_of, terms_of_condition, terms_of_conditions, terms_of_cube, terms_of_tree}
 use Rattle.case_model.proofs.Numbers.{all_met, are_numbered, length-numbers, number_at, one_object}
 use Rattle.case_model.proofs.Terms.{found_at, leads_to, object_of-field}
 
@@ -49,7 +44,8 @@ module _ (heap : List Object) (objects : List ℕ) (ts : List Term) where
       let n = number_at [] (map (object_of heap objects) ts) i (object_of heap objects t) (there i t at) in
       get_or_from_slice_get (case_of heap objects ts) i (position_or_len (nat_eq (object_of heap objects t)) (all_met [] (map (object_of heap objects) ts))) 0 n.0
 
-  joined_same : (i j : ℕ) (t u : Term) → slice_get ts i ≡ Some t → slice_get ts j ≡ Some u → Joined (case_of heap objects ts) i j → object_of heap objects t ≡ object_of heap objects u
+  joined_same : (i j : ℕ) (t u : Term) → slice_get ts i ≡ Some t → slice_get ts j ≡ Some u → Joined (case_of heap objects ts) i j
+      → object_of heap objects t ≡ object_of heap objects u
   joined_same i j t u at at' joined =
       let all = map (object_of heap objects) ts in
       one_object (all_met [] all) (object_of heap objects t) (object_of heap objects u)
@@ -57,11 +53,13 @@ module _ (heap : List Object) (objects : List ℕ) (ts : List Term) where
       (number_at [] all j (object_of heap objects u) (there j u at')).1
       (sym (block i t at) ∙ joined ∙ block j u at')
 
-  same_joined : (i j : ℕ) (t u : Term) → slice_get ts i ≡ Some t → slice_get ts j ≡ Some u → object_of heap objects t ≡ object_of heap objects u → Joined (case_of heap objects ts) i j
+  same_joined : (i j : ℕ) (t u : Term) → slice_get ts i ≡ Some t → slice_get ts j ≡ Some u → object_of heap objects t ≡ object_of heap objects u
+      → Joined (case_of heap objects ts) i j
   same_joined i j t u at at' same =
       block i t at ∙ ap (λ o. position_or_len (nat_eq o) (all_met [] (map (object_of heap objects) ts))) same ∙ sym (block j u at')
 
-  is_configuration : (form : Form) (variables : List (Option ℕ)) (classes : List ℕ) → IsState form variables ts classes heap objects → IsConfiguration ts classes (case_of heap objects ts)
+  is_configuration : (form : Form) (variables : List (Option ℕ)) (classes : List ℕ) → IsState form variables ts classes heap objects
+      → IsConfiguration ts classes (case_of heap objects ts)
   is_configuration form variables classes state = record {
     as_many = length-numbers [] (map (object_of heap objects) ts) ∙ length-map ts (object_of heap objects);
     numbered = are_numbered [] (map (object_of heap objects) ts);
@@ -71,7 +69,8 @@ module _ (heap : List Object) (objects : List ℕ) (ts : List Term) where
         (object_of-field heap objects t f ∙ ap (λ o. get heap o f) (joined_same i j t u ti uj joined) ∙ sym (object_of-field heap objects u f));
   }
     where
-      classes_same : (i j : ℕ) → ((t : Term) × (slice_get ts i ≡ Some t)) → ((t : Term) × (slice_get ts j ≡ Some t)) → Joined (case_of heap objects ts) i j → slice_index classes i ≡ slice_index classes j
+      classes_same : (i j : ℕ) → ((t : Term) × (slice_get ts i ≡ Some t)) → ((t : Term) × (slice_get ts j ≡ Some t))
+          → Joined (case_of heap objects ts) i j → slice_index classes i ≡ slice_index classes j
       classes_same i j t u joined =
           let c = zip_from (IsTermOf form variables) ts classes i t.0 state.typed t.1 in
           let d = zip_from (IsTermOf form variables) ts classes j u.0 state.typed u.1 in
@@ -139,7 +138,8 @@ module _ (ts : List Term) (e f : Equals) (agree : (t u : Term) → Contains ts t
           same_condition c (in_left (terms_of_condition first c) (terms_of_conditions first cs) has) i
           || same_any cs (in_right (terms_of_condition first c) (terms_of_conditions first cs) has) i
 
-    same_clauses : (cs : List Condition) → HasTerms ts (flat_map (terms_of_condition first) cs) → list_all (condition_holds first e) cs ≡ list_all (condition_holds first f) cs
+    same_clauses : (cs : List Condition) → HasTerms ts (flat_map (terms_of_condition first) cs)
+        → list_all (condition_holds first e) cs ≡ list_all (condition_holds first f) cs
     same_clauses [] has = refl
     same_clauses (c ∷ cs) has = λ i.
         same_condition c (in_left (terms_of_condition first c) (flat_map (terms_of_condition first) cs) has) i
@@ -165,18 +165,21 @@ module _ (heap : List Object) (objects : List ℕ) (first : ℕ) where
     any_there none = refl
     any_there (c ▸ cs) = λ i. condition_there c i || any_there cs i
 
-  none_false : (cs : List Condition) (n : ℕ) → list_all (condition_holds first (by_objects heap objects)) cs ≡ is_none (position_from (λ c. not (holds heap (drop first objects) c)) n cs)
+  none_false : (cs : List Condition) (n : ℕ)
+      → list_all (condition_holds first (by_objects heap objects)) cs ≡ is_none (position_from (λ c. not (holds heap (drop first objects) c)) n cs)
   none_false [] n = refl
   none_false (c ∷ cs) n = by (condition_holds first (by_objects heap objects) c) (holds heap (drop first objects) c) (condition_there c) (none_false cs (n + 1))
     where
-      by : (b d : Bool) → b ≡ d → list_all (condition_holds first (by_objects heap objects)) cs ≡ is_none (position_from (λ c. not (holds heap (drop first objects) c)) (n + 1) cs)
+      by : (b d : Bool) → b ≡ d
+          → list_all (condition_holds first (by_objects heap objects)) cs ≡ is_none (position_from (λ c. not (holds heap (drop first objects) c)) (n + 1) cs)
           → (b && list_all (condition_holds first (by_objects heap objects)) cs) ≡ is_none (cond (not d) (Some n) (position_from (λ c. not (holds heap (drop first objects) c)) (n + 1) cs))
       by true true e rest = rest
       by true false e rest = absurd (cc)
       by false true e rest = absurd (cc)
       by false false e rest = refl
 
-clauses_there : (heap : List Object) (objects : List ℕ) (m : Method) → clauses_hold m (by_objects heap objects) ≡ is_none (first_failing m heap (arguments_in m objects))
+clauses_there : (heap : List Object) (objects : List ℕ) (m : Method)
+    → clauses_hold m (by_objects heap objects) ≡ is_none (first_failing m heap (arguments_in m objects))
 clauses_there heap objects m = by m.constructor
   where
     by : (b : Bool) → list_all (condition_holds (cond b 4 3) (by_objects heap objects)) (cond b [] (map condition_of m.clauses))

@@ -2,21 +2,19 @@
 use Rattle.std.proofs.Common.{◌≡◌, ℕ, zero, suc, ◌+◌, ◌<◌, Bool, cond, List, [], ◌∷◌, ◌++◌, length, map, flat_map, Contains, Option, Some, None, true, false, slice_index_or, arith, refl, ap, subst, ◌∙◌, ⊎_elim}
 use Rattle.std.specs.Prelude.{slice_get}
 use Rattle.std.proofs.lemmas.List.Elements.{Contains-append_cases}
-use Rattle.easl_model.specs.Checked.{IsChecked}
-use Rattle.easl_model.specs.Conditions.{Condition, Conditions, condition_of, conditions, Same, Differ, All, Any, none, ◌▸◌}
+use Rattle.easl_model.specs.{AreSides, AreTypedConditions, Condition, Gives, IsChecked, IsTypedCondition, IsTypedMethod, Standing, condition_of, conditions}
+use Rattle.easl_model.specs.{standing_of}
+use Rattle.easl_model.specs.Conditions.{Conditions, Same, Differ, All, Any, none, ◌▸◌}
 use Rattle.easl_model.specs.Form.{Form}
-use Rattle.easl_model.specs.Typed.{AreSides, AreTypedConditions, Gives, IsTypedCondition, Standing}
-use Rattle.easl_model.specs.TypedBodies.{IsTypedMethod, standing_of}
 use Rattle.easl_model.specs.declared.form.Method.{Method}
 use Rattle.easl_model.specs.declared.form.Reach.{Reach}
 use Rattle.easl_model.specs.declared.form.Test.{Test}
 use Rattle.easl_model.proofs.CheckedForms.{checked_typed}
 use Rattle.easl_model.proofs.Items.{all_at}
 use Rattle.easl_heap.proofs.Holding.{slot_of}
-use Rattle.access_paths.specs.Fitting.{IsTermOf}
-use Rattle.access_paths.specs.Terms.{term}
+use Rattle.access_paths.specs.{IsTermOf, term}
 use Rattle.access_paths.specs.declared.term.Term.{Term}
-use Rattle.case_model.specs.TermLists.{ClausesHaveClasses, term_of, terms_of_condition, terms_of_conditions}
+use Rattle.case_model.specs.{ClausesHaveClasses, term_of, terms_of_condition, terms_of_conditions}
 
 behind_three : (xs ys : List (Option ℕ)) (k i : ℕ) → length xs ≡ 3 → i ≡ 3 + k → slice_get (xs ++ ys) i ≡ slice_get ys k
 behind_three [] ys k i three e = absurd (omega (arith, three))

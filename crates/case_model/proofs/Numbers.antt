@@ -2,8 +2,7 @@
 use Rattle.std.proofs.Common.{◌≡◌, ℕ, zero, suc, ◌+◌, max, Bool, true, false, cond, nat_eq, List, [], ◌∷◌, ◌++◌, length, Some, refl, ap, sym, subst, ◌∙◌, arith, append_assoc, append-nil, length-append, eq-eqb, eqb-true}
 use Rattle.std.specs.Prelude.{slice_get}
 use Rattle.std.specs.List.{list_any, position_or_len}
-use Rattle.case_model.specs.Configurations.{AreNumbered}
-use Rattle.case_model.specs.HeapCases.{meet, numbers}
+use Rattle.case_model.specs.{AreNumbered, meet, numbers}
 use Rattle.case_model.proofs.Places.{place-most, place-none, place-found, place-within, place-append, place-push, any-append, any-push}
 
 -- all that are met
@@ -49,7 +48,8 @@ all_met-longer met (o ∷ os) =
     (b.0 ++ a.0, a.1 ∙ ap (λ l. l ++ a.0) b.1 ∙ append_assoc met b.0 a.0)
 
 -- each object's number is its place among all that are met
-pub number_at : (met os : List ℕ) (i o : ℕ) → slice_get os i ≡ Some o → (slice_get (numbers met os) i ≡ Some (position_or_len (nat_eq o) (all_met met os))) × (list_any (nat_eq o) (all_met met os) ≡ true)
+pub number_at : (met os : List ℕ) (i o : ℕ) → slice_get os i ≡ Some o
+    → (slice_get (numbers met os) i ≡ Some (position_or_len (nat_eq o) (all_met met os))) × (list_any (nat_eq o) (all_met met os) ≡ true)
 number_at met [] i o at = absurd (cc)
 number_at met (x ∷ os) zero o at =
     let same : x ≡ o = cc in
@@ -62,7 +62,8 @@ number_at met (x ∷ os) zero o at =
 number_at met (x ∷ os) (suc i) o at = number_at (meet x met) os i o at
 
 -- one number, one object
-pub one_object : (met : List ℕ) (o p : ℕ) → list_any (nat_eq o) met ≡ true → list_any (nat_eq p) met ≡ true → position_or_len (nat_eq o) met ≡ position_or_len (nat_eq p) met → o ≡ p
+pub one_object : (met : List ℕ) (o p : ℕ) → list_any (nat_eq o) met ≡ true → list_any (nat_eq p) met ≡ true
+    → position_or_len (nat_eq o) met ≡ position_or_len (nat_eq p) met → o ≡ p
 one_object met o p has has' same =
     let a = place-found (nat_eq o) met has in
     let b = place-found (nat_eq p) met has' in

@@ -19,7 +19,8 @@ module _ {X : Type 0} (is : X → Bool) where
   place-none [] h = refl
   place-none (x ∷ xs) h = by (is x) h (place-none xs)
     where
-      by : (b : Bool) → (b || list_any is xs) ≡ false → (list_any is xs ≡ false → position_or_len is xs ≡ length xs) → cond (not b) (1 + position_or_len is xs) 0 ≡ suc (length xs)
+      by : (b : Bool) → (b || list_any is xs) ≡ false → (list_any is xs ≡ false → position_or_len is xs ≡ length xs)
+          → cond (not b) (1 + position_or_len is xs) 0 ≡ suc (length xs)
       by true h rest = absurd (cc)
       by false h rest = omega (arith, rest h)
 
@@ -28,7 +29,9 @@ module _ {X : Type 0} (is : X → Bool) where
   place-found [] h = absurd (cc)
   place-found (x ∷ xs) h = by (is x) refl h (place-found xs)
     where
-      by : (b : Bool) → is x ≡ b → (b || list_any is xs) ≡ true → (list_any is xs ≡ true → (y : X) × (slice_get xs (position_or_len is xs) ≡ Some y) × (is y ≡ true)) → (y : X) × (slice_get (x ∷ xs) (cond (not b) (1 + position_or_len is xs) 0) ≡ Some y) × (is y ≡ true)
+      by : (b : Bool) → is x ≡ b → (b || list_any is xs) ≡ true
+          → (list_any is xs ≡ true → (y : X) × (slice_get xs (position_or_len is xs) ≡ Some y) × (is y ≡ true))
+          → (y : X) × (slice_get (x ∷ xs) (cond (not b) (1 + position_or_len is xs) 0) ≡ Some y) × (is y ≡ true)
       by true e h rest = (x, refl, e)
       by false e h rest = let at = rest h in (at.0, ap (slice_get (x ∷ xs)) (one_more (position_or_len is xs)) ∙ at.1, at.2)
 
@@ -36,7 +39,8 @@ module _ {X : Type 0} (is : X → Bool) where
   place-within [] h = absurd (cc)
   place-within (x ∷ xs) h = by (is x) h (place-within xs)
     where
-      by : (b : Bool) → (b || list_any is xs) ≡ true → (list_any is xs ≡ true → position_or_len is xs < length xs) → cond (not b) (1 + position_or_len is xs) 0 < suc (length xs)
+      by : (b : Bool) → (b || list_any is xs) ≡ true → (list_any is xs ≡ true → position_or_len is xs < length xs)
+          → cond (not b) (1 + position_or_len is xs) 0 < suc (length xs)
       by true h rest = omega arith
       by false h rest = omega (arith, rest h)
 
@@ -44,7 +48,9 @@ module _ {X : Type 0} (is : X → Bool) where
   place-append [] ys h = absurd (omega arith)
   place-append (x ∷ xs) ys h = by (is x) h (place-append xs ys)
     where
-      by : (b : Bool) → cond (not b) (1 + position_or_len is xs) 0 < suc (length xs) → (position_or_len is xs < length xs → position_or_len is (xs ++ ys) ≡ position_or_len is xs) → cond (not b) (1 + position_or_len is (xs ++ ys)) 0 ≡ cond (not b) (1 + position_or_len is xs) 0
+      by : (b : Bool) → cond (not b) (1 + position_or_len is xs) 0 < suc (length xs)
+          → (position_or_len is xs < length xs → position_or_len is (xs ++ ys) ≡ position_or_len is xs)
+          → cond (not b) (1 + position_or_len is (xs ++ ys)) 0 ≡ cond (not b) (1 + position_or_len is xs) 0
       by true h rest = refl
       by false h rest = omega (arith, rest (omega arith))
 
@@ -76,7 +82,8 @@ module _ {X : Type 0} (is : X → Bool) where
       by false e = absurd (cc)
   place-push (x ∷ xs) y h e = by (is x) h (λ h'. place-push xs y h' e)
     where
-      by : (b : Bool) → (b || list_any is xs) ≡ false → (list_any is xs ≡ false → position_or_len is (xs ++ y ∷ []) ≡ length xs) → cond (not b) (1 + position_or_len is (xs ++ y ∷ [])) 0 ≡ suc (length xs)
+      by : (b : Bool) → (b || list_any is xs) ≡ false → (list_any is xs ≡ false → position_or_len is (xs ++ y ∷ []) ≡ length xs)
+          → cond (not b) (1 + position_or_len is (xs ++ y ∷ [])) 0 ≡ suc (length xs)
       by true h rest = absurd (cc)
       by false h rest = omega (arith, rest h)
 

@@ -10,18 +10,13 @@ use Rattle.std.proofs.lemmas.Map.Lookups.{exact_bytes, exact_unsigned}
 use Rattle.std.proofs.lemmas.Option.{get_or_from_slice_get, slice_get-get_or}
 use Rattle.std.proofs.lemmas.List.Sums.{fold-append}
 use Rattle.easl_model.specs.Form.{Form}
-use Rattle.easl_heap.specs.Full.{IsGiven}
-use Rattle.easl_heap.specs.Heap.{Object, IsFull, IsObjectOf, get}
+use Rattle.easl_heap.specs.{IsFull, IsGiven, IsObjectOf, Object, get}
 use Rattle.easl_model.proofs.Items.{zip_from}
 use Rattle.easl_heap.proofs.FullHeaps.{full_whole}
-use Rattle.access_paths.specs.Fitting.{IsTermOf}
-use Rattle.access_paths.specs.Terms.{compare_terms, field, term}
-use Rattle.access_paths.specs.Truth.{object_of}
-use Rattle.access_paths.specs.Variables.{AreObjects}
+use Rattle.access_paths.specs.{AreObjects, IsTermOf, compare_terms, field, object_of, term}
 use Rattle.access_paths.specs.declared.term.Term.{Term}
 use Rattle.access_paths.proofs.Orders.{terms_total}
-use Rattle.case_model.specs.Configurations.{place_of}
-use Rattle.case_model.specs.TermLists.{AreTermsOf, HasTerms}
+use Rattle.case_model.specs.{AreTermsOf, HasTerms, place_of}
 use Rattle.case_model.proofs.Places.{any-get, place-found}
 
 both_equal : (o p : Ordering) → is_eq (ordering_then o p) ≡ true → (o ≡ Equal) × (p ≡ Equal)

@@ -1,9 +1,10 @@
 -- The truth of conditions where it is known which terms are equal, and the care list.
 use Rattle.std.specs.Prelude.{ℕ, Bool, true, false, not, ◌&&◌, ◌||◌, List, filter}
 use Rattle.std.specs.List.{list_all}
-use Rattle.easl_model.specs.Conditions.{Condition, Conditions, Same, Differ, All, Any, none, ◌▸◌}
+use Rattle.easl_model.specs.{Condition}
+use Rattle.easl_model.specs.Conditions.{Conditions, Same, Differ, All, Any, none, ◌▸◌}
 use Rattle.easl_model.specs.declared.form.Method.{Method}
-use Rattle.access_paths.specs.Truth.{Equals}
+use Rattle.access_paths.specs.{Equals}
 use Rattle.access_paths.specs.declared.term.Term.{Term}
 use Rattle.case_model.specs.Configurations.{by_blocks}
 use Rattle.case_model.specs.TermLists.{clauses_of, first_variable, term_of}

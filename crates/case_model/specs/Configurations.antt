@@ -4,8 +4,7 @@ use Rattle.std.specs.Cmp.Lexicographic.{slice_cmp}
 use Rattle.std.specs.List.{position_or_len}
 use Rattle.std.specs.Ordering.{nat_cmp, is_eq}
 use Rattle.std.specs.declared.cmp.Ordering.TheVariants.{Less}
-use Rattle.access_paths.specs.Terms.{compare_terms, field}
-use Rattle.access_paths.specs.Truth.{Equals}
+use Rattle.access_paths.specs.{Equals, compare_terms, field}
 use Rattle.access_paths.specs.declared.term.Term.{Term}
 
 -- Blocks are numbered by their first terms: each is one of the n that were met before, or the next number.

@@ -2,9 +2,8 @@
 use Rattle.std.specs.Prelude.{◌≡◌, ℕ, ◌≤◌, ◌↔◌, true, ◌==◌, ◌||◌, List, [], ◌∷◌, length, All, AllPairs, Any, Contains, count_by}
 use Rattle.std.specs.List.{list_any}
 use Rattle.std.specs.declared.cmp.Ordering.TheVariants.{Less}
-use Rattle.access_paths.specs.Terms.{IsCube, compare_cubes}
-use Rattle.access_paths.specs.Trees.{Tree, answer}
-use Rattle.access_paths.specs.Truth.{cube_holds}
+use Rattle.access_paths.specs.{IsCube, answer, compare_cubes, cube_holds}
+use Rattle.access_paths.specs.Trees.{Tree}
 use Rattle.access_paths.specs.declared.term.Cube.{Cube}
 use Rattle.access_paths.specs.declared.term.Term.{Term}
 use Rattle.case_model.specs.Configurations.{by_blocks}

@@ -1,14 +1,12 @@
 -- The configuration of a heap.
 use Rattle.std.specs.Prelude.{◌≡◌, ℕ, cond, nat_eq, is_none, List, [], ◌∷◌, ◌++◌, map, Option}
 use Rattle.std.specs.List.{list_any, position_or_len}
-use Rattle.easl_model.specs.Conditions.{Condition}
+use Rattle.easl_model.specs.{Condition}
 use Rattle.easl_model.specs.Form.{Form}
 use Rattle.easl_model.specs.declared.form.Method.{Method}
-use Rattle.easl_heap.specs.Clause.{first_failing, holds}
-use Rattle.easl_heap.specs.Heap.{Object, IsFull}
-use Rattle.access_paths.specs.Trees.{Tree, answer}
-use Rattle.access_paths.specs.Truth.{by_objects, cube_holds, object_of}
-use Rattle.access_paths.specs.Variables.{AreObjects, arguments_in}
+use Rattle.easl_heap.specs.{IsFull, Object, first_failing, holds}
+use Rattle.access_paths.specs.{AreObjects, answer, arguments_in, by_objects, cube_holds, object_of}
+use Rattle.access_paths.specs.Trees.{Tree}
 use Rattle.access_paths.specs.declared.term.Literal.{Literal}
 use Rattle.access_paths.specs.declared.term.Term.{Term}
 use Rattle.case_model.specs.Care.{clauses_hold, condition_holds}

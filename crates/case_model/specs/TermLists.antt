@@ -2,16 +2,14 @@
 use Rattle.std.specs.Prelude.{◌≡◌, ℕ, ◌+◌, ◌↔◌, Bool, List, [], ◌∷◌, ◌++◌, AllPairs, Any, Contains, Option, Some, None, ◌<◌, flat_map, length, slice_get, map, if◌then◌else◌}
 use Rattle.std.specs.List.{AllZip}
 use Rattle.std.specs.declared.cmp.Ordering.TheVariants.{Less}
-use Rattle.easl_model.specs.Checked.{IsChecked}
-use Rattle.easl_model.specs.Conditions.{Condition, Conditions, condition_of, Same, Differ, All, none, ◌▸◌}
+use Rattle.easl_model.specs.{Condition, IsChecked, condition_of}
+use Rattle.easl_model.specs.Conditions.{Conditions, Same, Differ, All, none, ◌▸◌}
 use Rattle.easl_model.specs.Conditions as condition
 use Rattle.easl_model.specs.Form.{Form}
 use Rattle.easl_model.specs.declared.form.Method.{Method}
 use Rattle.easl_model.specs.declared.form.Reach.{Reach}
-use Rattle.access_paths.specs.Fitting.{IsTermOf}
-use Rattle.access_paths.specs.Terms.{compare_terms, term}
-use Rattle.access_paths.specs.Variables.{family_classes, no_family, variables_of}
-use Rattle.access_paths.specs.Trees.{Tree, Leaf, Ask}
+use Rattle.access_paths.specs.{Ask, IsTermOf, Leaf, compare_terms, family_classes, no_family, term, variables_of}
+use Rattle.access_paths.specs.Trees.{Tree}
 use Rattle.access_paths.specs.declared.term.Family.{Family}
 use Rattle.access_paths.specs.declared.term.Literal.{Literal}
 use Rattle.access_paths.specs.declared.term.Term.{Term}

@@ -1,6 +1,5 @@
 //! Laws on configurations, as the contracts of functions that do nothing.
-ghost use Rattle.case_model.specs.HeapCases.{HeapsHaveCases};
-ghost use Rattle.case_model.specs.TermLists.{ClausesHaveClasses};
+ghost use Rattle.case_model.specs.{ClausesHaveClasses, HeapsHaveCases};
 
 /// Each full heap with its objects gives one configuration of a term list, and what asks for terms of the list
 /// alone is as true there as in the heap.

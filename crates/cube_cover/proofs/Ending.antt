@@ -2,14 +2,12 @@
 use Rattle.std.proofs.Common.{◌≡◌, ℕ, zero, suc, ◌<◌, Bool, true, false, List, [], ◌∷◌, length, get_or, map, All, Any, Contains, refl, ap, sym, subst, inl, inr, ⊎_elim, arith}
 use Rattle.std.specs.Prelude.{◌⊎◌}
 use Rattle.std.proofs.lemmas.List.Elements.{Contains-get_or}
-use Rattle.access_paths.specs.Trees.{Tree, answer}
-use Rattle.access_paths.specs.Truth.{cube_holds}
+use Rattle.access_paths.specs.{answer, cube_holds}
+use Rattle.access_paths.specs.Trees.{Tree}
 use Rattle.access_paths.specs.declared.term.Literal.{Literal}
 use Rattle.access_paths.specs.declared.term.Term.{Term}
-use Rattle.case_model.specs.Configurations.{AreConfigurations, IsConfiguration, by_blocks}
-use Rattle.case_model.specs.Disjuncts.{AreDisjuncts, FallsShort}
+use Rattle.case_model.specs.{AreConfigurations, AreDisjuncts, FallsShort, IsConfiguration, IsTermList, by_blocks}
 use Rattle.case_model.specs.Disjuncts as told
-use Rattle.case_model.specs.TermLists.{IsTermList}
 use Rattle.cube_search.specs.Cubes.{AreAsLong, Before, Counts, IsEnough, IsTail, IsTrueAt, covers}
 use Rattle.cube_search.specs.Lists.{Each, IsIn}
 use Rattle.cube_search.specs.Widest.{AreChosen}
@@ -18,10 +16,8 @@ use Rattle.cube_search.specs.declared.searching.Task.{Task}
 use Rattle.cube_search.proofs.Lists.{each-from, each-in}
 use Rattle.cube_search.proofs.Carried.{Stands}
 use Rattle.cube_search.proofs.Literals.{IsTable, Precedes, chosen_literals, stands}
-use Rattle.cube_cover.specs.Chosen.{AreTogether, configurations_at}
-use Rattle.cube_cover.specs.Literals.{cube_of, cubes_of, literals_over, none_such}
+use Rattle.cube_cover.specs.{AreTogether, IsTaskOf, configurations_at, cube_of, cubes_of, everywhere, literals_over, none_such}
 use Rattle.cube_search.specs.Truths.{IsRowOf}
-use Rattle.cube_cover.specs.Table.{IsTaskOf, everywhere}
 use Rattle.cube_cover.proofs.Few.{cube, is_few}
 use Rattle.cube_cover.proofs.Named.{contains_in, each_get, get_each, in_contains}
 use Rattle.cube_cover.proofs.Order.{IsLessLiteral, same_literal, strict_literals}

@@ -5,13 +5,13 @@ use Rattle.std.specs.List.{list_any}
 use Rattle.std.specs.Option.{option_map_or}
 use Rattle.access_paths.specs.declared.term.Cube.{Cube}
 use Rattle.access_paths.specs.declared.term.Literal.{Literal}
-use Rattle.case_model.specs.Disjuncts.{variable_count}
+use Rattle.case_model.specs.{variable_count}
 use Rattle.cube_search.specs.Cubes.{IsTail}
 use Rattle.cube_search.specs.Lists.{Each, IsIn}
 use Rattle.cube_search.specs.Search.{how_many, has_variable, is_mentioned}
 use Rattle.cube_search.specs.Search as search
 use Rattle.cube_search.proofs.Lists.{each-in, any-in}
-use Rattle.cube_cover.specs.Literals.{none_such}
+use Rattle.cube_cover.specs.{none_such}
 
 abbrev pub cube : List Literal → Cube
 cube ls = record { literals = ls }

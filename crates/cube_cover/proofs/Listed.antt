@@ -3,12 +3,12 @@ use Rattle.std.proofs.Common.{◌≡◌, ℕ, zero, suc, ◌<◌, ◌==◌, Bool
 use Rattle.std.specs.Prelude.{slice_get}
 use Rattle.std.specs.declared.cmp.Ordering.TheVariants.{Less}
 use Rattle.std.proofs.lemmas.Bool.Decides.{Decides-eqb}
-use Rattle.access_paths.specs.Terms.{compare_terms}
+use Rattle.access_paths.specs.{compare_terms}
 use Rattle.access_paths.specs.declared.term.Literal.{Literal}
 use Rattle.access_paths.specs.declared.term.Term.{Term}
 use Rattle.cube_search.specs.Lists.{Each, IsIn, Rises}
 use Rattle.cube_search.proofs.Lists.{each-append, each-in, each-weaker, in-left, in-right, rises-append}
-use Rattle.cube_cover.specs.Literals.{both_if, literal, literals_over, literals_with}
+use Rattle.cube_cover.specs.{both_if, literal, literals_over, literals_with}
 use Rattle.cube_cover.proofs.Order.{IsLessLiteral, less_first, less_second, less_third}
 
 abbrev pub IsLessTerm : Term → Term → Type 0

@@ -7,24 +7,20 @@ use Rattle.std.proofs.lemmas.Bool.Decides.{eqb_tells}
 use Rattle.std.proofs.lemmas.List.{length-map}
 use Rattle.std.proofs.lemmas.Option.{get_or_from_slice_get, slice_get-get_or, slice_get_within}
 use Rattle.std.proofs.lemmas.Slice.Zip.{AllZip-long}
-use Rattle.access_paths.specs.Fitting.{IsTermOf}
-use Rattle.access_paths.specs.Terms.{compare_terms}
-use Rattle.access_paths.specs.Trees.{Tree, answer}
-use Rattle.access_paths.specs.Truth.{literal_holds}
+use Rattle.access_paths.specs.{IsTermOf, answer, compare_terms, literal_holds}
+use Rattle.access_paths.specs.Trees.{Tree}
 use Rattle.access_paths.specs.declared.term.Literal.{Literal}
 use Rattle.access_paths.specs.declared.term.Term.{Term}
 use Rattle.access_paths.proofs.Orders.{terms_total}
-use Rattle.case_model.specs.Configurations.{IsConfiguration, by_blocks, place_of}
-use Rattle.case_model.specs.TermLists.{IsTermList}
+use Rattle.case_model.specs.{IsConfiguration, IsTermList, by_blocks, place_of}
 use Rattle.case_model.proofs.Terms.{found_at}
 use Rattle.cube_search.specs.Cubes.{AreAsLong, IsEmpty, IsSet}
 use Rattle.cube_search.specs.Lists.{IsIn, Rises}
 use Rattle.cube_search.specs.declared.searching.Task.{Task}
 use Rattle.cube_search.proofs.Lists.{each-from, each-in}
 use Rattle.cube_search.proofs.Literals.{IsTable}
-use Rattle.cube_cover.specs.Literals.{literals_over, none_such}
+use Rattle.cube_cover.specs.{IsTaskOf, everywhere, literals_over, none_such}
 use Rattle.cube_search.specs.Truths.{IsRowOf}
-use Rattle.cube_cover.specs.Table.{IsTaskOf, everywhere}
 use Rattle.cube_cover.proofs.Few.{few_less, few_same, is_few}
 use Rattle.cube_cover.proofs.Listed.{IsLessTerm, over_in, over_parts, over_rises}
 use Rattle.cube_cover.proofs.Named.{at_map, in_contains, map_at, pairs_rises, zip_at, zip_each}

@@ -11,18 +11,15 @@ use Rattle.std.proofs.lemmas.Cmp.{tied_itself}
 use Rattle.std.proofs.lemmas.Map.Lookups.{exact_unsigned}
 use Rattle.std.proofs.lemmas.List.Elements.{Contains-get_or}
 use Rattle.std.proofs.lemmas.Option.{get_or_from_slice_get, slice_get-get_or, slice_get_within}
-use Rattle.access_paths.specs.Terms.{Ascend, IsLiteral, compare_cubes, compare_literals}
-use Rattle.access_paths.specs.Trees.{Tree, answer}
-use Rattle.access_paths.specs.Truth.{cube_holds, literal_holds}
+use Rattle.access_paths.specs.{Ascend, IsLiteral, answer, compare_cubes, compare_literals, cube_holds, literal_holds}
+use Rattle.access_paths.specs.Trees.{Tree}
 use Rattle.access_paths.specs.declared.term.Cube.{Cube}
 use Rattle.access_paths.specs.declared.term.Literal.{Literal}
 use Rattle.access_paths.specs.declared.term.Term.{Term}
 use Rattle.access_paths.proofs.Exact.{literals_exact}
 use Rattle.access_paths.proofs.Orders.{literals_total}
-use Rattle.case_model.specs.Configurations.{by_blocks}
-use Rattle.case_model.specs.Disjuncts.{AreDisjuncts, variable_count}
+use Rattle.case_model.specs.{AreDisjuncts, HasTerms, by_blocks, terms_of_cube, variable_count}
 use Rattle.case_model.specs.Disjuncts as told
-use Rattle.case_model.specs.TermLists.{HasTerms, terms_of_cube}
 use Rattle.cube_search.specs.Lists.{Each, IsIn, Rises}
 use Rattle.cube_search.proofs.Carried.{AreChosenOf}
 use Rattle.cube_search.proofs.Lists.{each-in, each-weaker}

@@ -1,12 +1,11 @@
 -- What is asked of configurations that are handed in, and those that numbers name.
 use Rattle.std.specs.Prelude.{◌≡◌, ◌↔◌, ℕ, ◌≤◌, true, List, [], All, Any, length, map, get_or}
-use Rattle.access_paths.specs.Trees.{Tree, answer}
+use Rattle.access_paths.specs.{answer}
+use Rattle.access_paths.specs.Trees.{Tree}
 use Rattle.access_paths.specs.declared.term.Cube.{Cube}
 use Rattle.access_paths.specs.declared.term.Term.{Term}
 use Rattle.alias_cases.specs.declared.case.Cases.{Cases}
-use Rattle.case_model.specs.Configurations.{AreConfigurations, by_blocks}
-use Rattle.case_model.specs.Disjuncts.{AreDisjuncts, FallsShort, IsTrueAt}
-use Rattle.case_model.specs.TermLists.{IsTermList}
+use Rattle.case_model.specs.{AreConfigurations, AreDisjuncts, FallsShort, IsTermList, IsTrueAt, by_blocks}
 
 -- all configurations of a term list, and not too many
 pub record AreCases (cases : Cases) : Type 0 where

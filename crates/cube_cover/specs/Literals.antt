@@ -1,6 +1,6 @@
 -- The literals between two terms of one class, in order.
 use Rattle.std.specs.Prelude.{ℕ, ◌==◌, Bool, true, false, List, [], ◌∷◌, ◌++◌, if◌then◌else◌, get_or, map}
-use Rattle.access_paths.specs.Terms.{term}
+use Rattle.access_paths.specs.{term}
 use Rattle.access_paths.specs.declared.term.Cube.{Cube}
 use Rattle.access_paths.specs.declared.term.Literal.{Literal}
 use Rattle.access_paths.specs.declared.term.Term.{Term}

@@ -1,11 +1,11 @@
 -- A table of literals with the rows of the configurations of a care list in which they are true.
 use Rattle.std.specs.Prelude.{◌≡◌, ℕ, Bool, true, not, List, map}
 use Rattle.std.specs.List.{AllZip}
-use Rattle.access_paths.specs.Trees.{Tree, answer}
-use Rattle.access_paths.specs.Truth.{literal_holds}
+use Rattle.access_paths.specs.{answer, literal_holds}
+use Rattle.access_paths.specs.Trees.{Tree}
 use Rattle.access_paths.specs.declared.term.Literal.{Literal}
 use Rattle.access_paths.specs.declared.term.Term.{Term}
-use Rattle.case_model.specs.Configurations.{by_blocks}
+use Rattle.case_model.specs.{by_blocks}
 use Rattle.cube_search.specs.declared.searching.Task.{Task}
 use Rattle.cube_search.specs.Truths.{IsRowOf}
 

@@ -2,8 +2,8 @@
 ghost use Rattle.std.specs.Prelude.{◌≡◌, slice_index};
 ghost use Rattle.std.specs.Ordering.{is_eq};
 ghost use Rattle.access_paths.specs.Terms as told;
-ghost use Rattle.access_paths.specs.Terms.{compare_terms};
-ghost use Rattle.case_model.specs.Configurations.{place_of};
+ghost use Rattle.access_paths.specs.{compare_terms};
+ghost use Rattle.case_model.specs.{place_of};
 
 use access_paths::Term;
 

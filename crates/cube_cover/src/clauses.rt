@@ -1,12 +1,11 @@
 //! The configurations in which all clauses of a method are true.
 ghost use Rattle.std.specs.Prelude.{◌≡◌, ◌<◌, ◌++◌, [], ◌∷◌, All, cond, length, map, slice_get, slice_index, IfOk, IfSome, OnOk};
 ghost use Rattle.std.specs.List.{list_all};
-ghost use Rattle.easl_model.specs.Conditions.{condition_of, conditions};
+ghost use Rattle.easl_model.specs.{condition_of, conditions};
 ghost use Rattle.case_model.specs.Care as told;
 ghost use Rattle.case_model.specs.Configurations as list;
-ghost use Rattle.case_model.specs.Configurations.{by_blocks};
-ghost use Rattle.case_model.specs.TermLists.{HasTerms, first_variable, term_of, terms_of_clauses};
-ghost use Rattle.cube_cover.specs.Chosen.{AreCases, configurations_at};
+ghost use Rattle.case_model.specs.{HasTerms, by_blocks, first_variable, term_of, terms_of_clauses};
+ghost use Rattle.cube_cover.specs.{AreCases, configurations_at};
 
 use crate::blocks::{block_at, place_of};
 use access_paths::Term;

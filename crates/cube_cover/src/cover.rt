@@ -1,9 +1,8 @@
 //! The choice of the disjuncts.
 ghost use Rattle.std.specs.Prelude.{◌≡◌, ◌<◌, All, length, map, IfOk, IsErrOf};
-ghost use Rattle.access_paths.specs.Trees.{tree_of};
-ghost use Rattle.case_model.specs.Disjuncts.{AreDisjuncts, FallsShort};
-ghost use Rattle.case_model.specs.TermLists.{HasTerms, terms_of_tree};
-ghost use Rattle.cube_cover.specs.Chosen.{AreCases, AreTogether, DisjunctsFallShort, configurations_at};
+ghost use Rattle.access_paths.specs.{tree_of};
+ghost use Rattle.case_model.specs.{AreDisjuncts, FallsShort, HasTerms, terms_of_tree};
+ghost use Rattle.cube_cover.specs.{AreCases, AreTogether, DisjunctsFallShort, configurations_at};
 ghost use Rattle.cube_cover.specs.Literals as told;
 
 use crate::fault::CoverFault;

@@ -1,10 +1,9 @@
 //! The table of a question's literals: in which configurations each is true, and in which the tree is.
 ghost use Rattle.std.specs.Prelude.{◌≡◌, map, IfOk};
 ghost use Rattle.std.specs.List.{AllZip};
-ghost use Rattle.access_paths.specs.Trees.{tree_of};
-ghost use Rattle.cube_cover.specs.Chosen.{configurations_at};
+ghost use Rattle.access_paths.specs.{tree_of};
+ghost use Rattle.cube_cover.specs.{IsTaskOf, configurations_at, everywhere, truths_of};
 ghost use Rattle.cube_search.specs.Truths.{IsRowOf};
-ghost use Rattle.cube_cover.specs.Table.{IsTaskOf, everywhere, truths_of};
 
 use crate::put::put_last;
 use crate::truths::{answers_of, everywhere, opposite, truths_of};

@@ -1,11 +1,9 @@
 //! Where literals and trees are true, among the configurations that numbers name.
 ghost use Rattle.std.specs.Prelude.{◌≡◌, [], get_or, map, not, IfOk};
-ghost use Rattle.access_paths.specs.Trees.{answer, tree_of};
-ghost use Rattle.access_paths.specs.Truth.{literal_holds};
+ghost use Rattle.access_paths.specs.{answer, literal_holds, tree_of};
 ghost use Rattle.case_model.specs.Configurations as list;
-ghost use Rattle.case_model.specs.Configurations.{by_blocks};
-ghost use Rattle.cube_cover.specs.Chosen.{configurations_at};
-ghost use Rattle.cube_cover.specs.Table.{answers_of, truths_of};
+ghost use Rattle.case_model.specs.{by_blocks};
+ghost use Rattle.cube_cover.specs.{answers_of, configurations_at, truths_of};
 
 use crate::blocks::{block_at, place_of};
 use crate::put::put_last;

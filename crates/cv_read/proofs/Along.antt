@@ -1,7 +1,8 @@
 -- A loop that reads items one after another is `items_at`.
 use Rattle.std.proofs.Common.{◌≡◌, ℕ, suc, ◌+◌, ◌-◌, ◌<◌, ◌≤◌, List, [], ◌∷◌, ◌++◌, length, Some, None, Option, refl, sym, ◌∙◌, ap, arith, append_assoc, append-nil, length-append}
 use Rattle.easl_model.specs.declared.token.Token.{Token}
-use Rattle.cv_read.specs.Read.{Read, Got, Stuck, Deep, put_front, many_at, then_more, items_at}
+use Rattle.cv_read.specs.{Deep, Got, Stuck, items_at, many_at, put_front, then_more}
+use Rattle.cv_read.specs.Read.{Read}
 
 -- where the loop is: what is left gives the whole reading behind what was found
 pub record IsAlong {A : Type 0} (step : List Token → Read (Option A)) (whole rest : List Token) (found : List A) : Type 0 where
@@ -19,7 +20,8 @@ put_front-front xs ys (Stuck n) = refl
 put_front-front xs ys Deep = refl
 
 -- one more turn is left
-opened : {A : Type 0} (step : List Token → Read (Option A)) (whole rest : List Token) (found : List A) → IsAlong step whole rest found → put_front found (then_more (many_at step (length whole - length found)) (step rest)) ≡ items_at step whole
+opened : {A : Type 0} (step : List Token → Read (Option A)) (whole rest : List Token) (found : List A) → IsAlong step whole rest found
+    → put_front found (then_more (many_at step (length whole - length found)) (step rest)) ≡ items_at step whole
 opened step whole rest found a =
     let e : suc (length whole) - length found ≡ suc (length whole - length found) = let t = a.turns in omega arith in
     rw e at a.reads
@@ -30,7 +32,9 @@ starts step whole =
     let e : suc (length whole) - 0 ≡ suc (length whole) = omega arith in
     record { reads = rw e (put_front-nil _); turns = omega arith }
 
-pub goes_on : {A : Type 0} (step : List Token → Read (Option A)) (whole rest more : List Token) (found longer : List A) (x : A) → IsAlong step whole rest found → step rest ≡ Got (Some x) more → length more < length rest → longer ≡ found ++ x ∷ [] → IsAlong step whole more longer
+pub goes_on : {A : Type 0} (step : List Token → Read (Option A)) (whole rest more : List Token) (found longer : List A) (x : A)
+    → IsAlong step whole rest found → step rest ≡ Got (Some x) more → length more < length rest → longer ≡ found ++ x ∷ []
+    → IsAlong step whole more longer
 goes_on step whole rest more found longer x a is short e =
     let n : length longer ≡ suc (length found) = rw (e, length-append) (omega arith) in
     let k : suc (length whole) - length longer ≡ length whole - length found = omega arith in
@@ -40,14 +44,17 @@ goes_on step whole rest more found longer x a is short e =
       turns = let t = a.turns in omega arith;
     }
 
-pub ends : {A : Type 0} (step : List Token → Read (Option A)) (whole rest more : List Token) (found : List A) → IsAlong step whole rest found → step rest ≡ Got None more → items_at step whole ≡ Got found more
+pub ends : {A : Type 0} (step : List Token → Read (Option A)) (whole rest more : List Token) (found : List A) → IsAlong step whole rest found
+    → step rest ≡ Got None more → items_at step whole ≡ Got found more
 ends step whole rest more found a is =
     let o = rw is at (opened step whole rest found a) in sym o ∙ ap (λ ws. Got ws more) (append-nil found)
 
-pub stops : {A : Type 0} (step : List Token → Read (Option A)) (whole rest : List Token) (found : List A) (n : ℕ) → IsAlong step whole rest found → step rest ≡ Stuck n → items_at step whole ≡ Stuck n
+pub stops : {A : Type 0} (step : List Token → Read (Option A)) (whole rest : List Token) (found : List A) (n : ℕ) → IsAlong step whole rest found
+    → step rest ≡ Stuck n → items_at step whole ≡ Stuck n
 stops step whole rest found n a is =
     let o = rw is at (opened step whole rest found a) in sym o
 
-pub deepens : {A : Type 0} (step : List Token → Read (Option A)) (whole rest : List Token) (found : List A) → IsAlong step whole rest found → step rest ≡ Deep → items_at step whole ≡ Deep
+pub deepens : {A : Type 0} (step : List Token → Read (Option A)) (whole rest : List Token) (found : List A) → IsAlong step whole rest found
+    → step rest ≡ Deep → items_at step whole ≡ Deep
 deepens step whole rest found a is =
     let o = rw is at (opened step whole rest found a) in sym o

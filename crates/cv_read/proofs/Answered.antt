@@ -4,19 +4,18 @@ use Rattle.cv_lex.specs.Form as lex
 use Rattle.cv_lex.specs.declared.fault.TextFault.{TextFault}
 use Rattle.cv_lex.specs.declared.fault.TextFault.TheVariants.{NotUtf8, BadToken, Limit, Syntax, Memory}
 use Rattle.easl_model.specs.declared.fault.Which.TheVariants.{Nesting}
-use Rattle.easl_model.specs.Brackets.{turned, StaysShallow, Shallow}
+use Rattle.easl_model.specs.{AreTokens, Shallow, StaysShallow, turned}
 use Rattle.easl_model.specs.declared.place.Place.{Place}
 use Rattle.easl_model.specs.declared.token.Kind.{Kind}
 use Rattle.easl_model.specs.declared.token.Kind.TheVariants as kind
 use Rattle.easl_model.specs.declared.token.Mark.TheVariants as mark
 use Rattle.easl_model.specs.declared.token.Token.{Token}
 use Rattle.easl_model.specs.declared.token.Tokens.{Tokens}
-use Rattle.easl_model.specs.Tokens.{AreTokens}
 use Rattle.easl_model.proofs.Cuts.{one_list, bad_has_none, not_utf8_has_none}
 use Rattle.cv_lex.proofs.Single as single
-use Rattle.cv_read.specs.Answers.{Language, IsTooDeepAt, IsFirstWrongAt, Answers, OneAnswer, FindsTree}
-use Rattle.cv_read.specs.Faults.{placed, Nests}
-use Rattle.cv_read.specs.Read.{Read, Got, Stuck, Deep, ◌>>=◌, GivesWhole, done_at, whole_at}
+use Rattle.cv_read.specs.{Deep, FindsTree, GivesWhole, Got, IsFirstWrongAt, IsTooDeepAt, Language, Nests, OneAnswer, Stuck, done_at, placed, whole_at, ◌>>=◌}
+use Rattle.cv_read.specs.Answers.{Answers}
+use Rattle.cv_read.specs.Read.{Read}
 use Rattle.cv_read.specs.declared.fault.ReadFault.{ReadFault}
 use Rattle.cv_read.specs.declared.fault.ReadFault.TheVariants as read
 use Rattle.cv_read.proofs.Depth.{Bounded}
@@ -39,7 +38,8 @@ shallow_long [] b n h = tt
 shallow_long (t ∷ ts) b n h = let k = turned_most b t.kind in (omega arith, shallow_long ts (turned b t.kind) n (omega arith))
 
 -- at most one tree is spelled, if a reader goes deep enough for these tokens
-pub one_spelling : {A : Type 0} (r : List Token → Read A) (S : Lang A) (G : Kind → Bool) (d : ℕ) (ts : List Token) → Reads r S G → Bounded r d → length ts < d → (x y : A) → S ts x → S ts y → x ≡ y
+pub one_spelling : {A : Type 0} (r : List Token → Read A) (S : Lang A) (G : Kind → Bool) (d : ℕ) (ts : List Token) → Reads r S G → Bounded r d
+    → length ts < d → (x y : A) → S ts x → S ts y → x ≡ y
 one_spelling r S G d ts law bound h x y = spells_one r S G law ts x y (λ e. bound ts 0 (length ts) e (omega arith) (omega arith) (shallow_long ts 0 (length ts) (omega arith)))
 
 -- from the tokens to the text
@@ -70,7 +70,8 @@ module _ {A : Type 0} (S : Language A) where
   pub tree_answers : (text : List ℕ) (x : Tokens) (tree : A) → lex.Answers text (Ok x) → FindsTree S text x.end x.list (Ok tree) → Answers S text (Ok tree)
   tree_answers text x tree h f = (x, h, f.0, f.1)
 
-  pub fault_answers : (text : List ℕ) (x : Tokens) (e : ReadFault) → lex.Answers text (Ok x) → FindsTree S text x.end x.list (Err e) → Answers S text (Err (placed x e))
+  pub fault_answers : (text : List ℕ) (x : Tokens) (e : ReadFault) → lex.Answers text (Ok x) → FindsTree S text x.end x.list (Err e)
+      → Answers S text (Err (placed x e))
   fault_answers text x (read.Nesting left) h f = (x, h, (f.0, f.1, f.2, f.3, f.5, place_left x f.0 (f.1 ∷ f.2) left f.3 f.4))
   fault_answers text x (read.Syntax left) h f = (x, h, f.0, (f.1.0, f.1.1, f.1.2, f.1.4, place_left x f.1.0 f.1.1 left f.1.2 f.1.3))
   fault_answers text x read.Memory h f = tt
@@ -90,7 +91,8 @@ module _ {A : Type 0} (S : Language A) (r : List ℕ → Place → List Token �
       by Deep p e = not_deep text end ts s p
 
   -- from the reading to what the grammar says
-  pub found : (text : List ℕ) (end : Place) (ts : List Token) (o : Result A ReadFault) → Shallow ts → GivesWhole o (whole_at (r text end) ts) → FindsTree S text end ts o
+  pub found : (text : List ℕ) (end : Place) (ts : List Token) (o : Result A ReadFault) → Shallow ts → GivesWhole o (whole_at (r text end) ts)
+      → FindsTree S text end ts o
   found text end ts (Ok x) s e = (s, read_spells (r text end) (S text end) G (law text end) ts x e)
   found text end ts (Err read.Memory) s e = tt
   found text end ts (Err (read.Nesting left)) s e = absurd (whole_not_deep text end ts s e)

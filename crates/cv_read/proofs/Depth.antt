@@ -1,9 +1,10 @@
 -- A reader goes too deep only where too many brackets stand in the text.
 use Rattle.std.proofs.Common.{◌≡◌, ℕ, zero, suc, ◌+◌, ◌<◌, ◌≤◌, Bool, true, false, List, [], ◌∷◌, ◌++◌, length, refl, sym, ◌∙◌, ap, subst, arith, length-append}
-use Rattle.easl_model.specs.Brackets.{turned, level_after, StaysShallow}
+use Rattle.easl_model.specs.{StaysShallow, level_after, turned}
 use Rattle.easl_model.specs.declared.token.Kind.{Kind}
 use Rattle.easl_model.specs.declared.token.Token.{Token}
-use Rattle.cv_read.specs.Read.{Read, Got, Stuck, Deep, ◌>>=◌, choose, pick, step_at, many_at, items_at, take_at}
+use Rattle.cv_read.specs.{Deep, Got, Stuck, choose, items_at, many_at, pick, step_at, take_at, ◌>>=◌}
+use Rattle.cv_read.specs.Read.{Read}
 use Rattle.cv_read.proofs.Laws.{Lang, Is, Front, Apart, Reads, got_or_deep, true_is}
 use Rattle.cv_read.proofs.Repeats.{as_choice, then_rest}
 
@@ -19,10 +20,12 @@ pub shallow_append : (most b : ℕ) (u v : List Token) → StaysShallow most b (
 shallow_append most b [] v s = s
 shallow_append most b (t ∷ u) v s = shallow_append most (turned b t.kind) u v s.1
 
-pub behind_even : {A : Type 0} (S : Lang A) → Even S → (ts used us : List Token) (x : A) (b most : ℕ) → ts ≡ used ++ us → S used x → StaysShallow most b ts → StaysShallow most b us
+pub behind_even : {A : Type 0} (S : Lang A) → Even S → (ts used us : List Token) (x : A) (b most : ℕ) → ts ≡ used ++ us → S used x
+    → StaysShallow most b ts → StaysShallow most b us
 behind_even S even ts used us x b most e s h = subst (λ l. StaysShallow most l us) (even used x s b) (shallow_append most b used us (subst (StaysShallow most b) e h))
 
-pub bounded_both : {A B : Type 0} (r : List Token → Read A) (f : A → List Token → Read B) (S : Lang A) (G : Kind → Bool) (d : ℕ) → Reads r S G → Even S → Bounded r d → ((x : A) → Bounded (f x) d) → Bounded (λ ts. r ts >>= f) d
+pub bounded_both : {A B : Type 0} (r : List Token → Read A) (f : A → List Token → Read B) (S : Lang A) (G : Kind → Bool) (d : ℕ) → Reads r S G
+    → Even S → Bounded r d → ((x : A) → Bounded (f x) d) → Bounded (λ ts. r ts >>= f) d
 bounded_both {A} {B} r f S G d law even first second ts b most e h m s = by (r ts) refl e
   where
     by : (o : Read A) → r ts ≡ o → (o >>= f) ≡ Deep → ⊥
@@ -53,7 +56,8 @@ pub bounded_got : {A : Type 0} (x : A) (d : ℕ) → Bounded (λ us. Got x us) d
 bounded_got x d ts b most e h m s = got_or_deep e
 
 -- one bracket more
-pub bounded_bracket : {A B : Type 0} (p : Kind → Bool) (value : Token → A) (r : A → List Token → Read B) (d : ℕ) → ((k : Kind) → Is (p k) → (b : ℕ) → turned b k ≡ suc b) → ((x : A) → Bounded (r x) d) → Bounded (λ ts. take_at p value ts >>= r) (suc d)
+pub bounded_bracket : {A B : Type 0} (p : Kind → Bool) (value : Token → A) (r : A → List Token → Read B) (d : ℕ)
+    → ((k : Kind) → Is (p k) → (b : ℕ) → turned b k ≡ suc b) → ((x : A) → Bounded (r x) d) → Bounded (λ ts. take_at p value ts >>= r) (suc d)
 bounded_bracket p value r d rises inner [] b most e h m s = cc
 bounded_bracket {A} {B} p value r d rises inner (t ∷ ts) b most e h m s = by (p t.kind) refl e
   where
@@ -64,7 +68,8 @@ bounded_bracket {A} {B} p value r d rises inner (t ∷ ts) b most e h m s = by (
     by false i e = cc
 
 module _ {A : Type 0} (p : Kind → Bool) (item : List Token → Read A) (I : Lang A) (G : Kind → Bool) (law : Reads item I G) (starts : (w : List Token) (x : A) → I w x → Front p w) (apart : Apart p G) (even : Even I) (d : ℕ) (bound : Bounded item d) where
-  bounded_turns : (n : ℕ) (ts : List Token) (b most : ℕ) → length ts < n → many_at (step_at p item) n ts ≡ Deep → b ≤ most → most < b + d → StaysShallow most b ts → ⊥
+  bounded_turns : (n : ℕ) (ts : List Token) (b most : ℕ) → length ts < n → many_at (step_at p item) n ts ≡ Deep → b ≤ most → most < b + d
+      → StaysShallow most b ts → ⊥
   bounded_turns zero ts b most l e h m s = absurd (omega arith)
   bounded_turns (suc n) [] b most l e h m s = got_or_deep e
   bounded_turns (suc n) (t ∷ ts) b most l e h m s = by (p t.kind) (sym (as_choice p item I G law starts apart n (t ∷ ts)) ∙ e) (bounded_turns n)

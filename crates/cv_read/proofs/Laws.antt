@@ -2,7 +2,8 @@
 use Rattle.std.proofs.Common.{◌≡◌, ℕ, suc, ◌≤◌, Bool, true, false, ◌||◌, List, [], ◌∷◌, ◌++◌, length, refl, sym, ◌∙◌, ap, subst, arith, append_assoc, append-nil, length-append, ◌⊎◌, inl, inr}
 use Rattle.easl_model.specs.declared.token.Kind.{Kind}
 use Rattle.easl_model.specs.declared.token.Token.{Token}
-use Rattle.cv_read.specs.Read.{Read, Got, Stuck, Deep, ◌>>=◌, pick, take_at, choose}
+use Rattle.cv_read.specs.{Deep, Got, Stuck, choose, pick, take_at, ◌>>=◌}
+use Rattle.cv_read.specs.Read.{Read}
 
 -- w has the tokens of ts up to and with the one where n are left, or both end
 abbrev pub Upto : List Token → ℕ → List Token → Type 0
@@ -122,7 +123,8 @@ module _ {A B : Type 0} (r : List Token → Read A) (f : A → List Token → Re
       sound_by ts us z (Stuck m) p e = stuck_or_got e
       sound_by ts us z Deep p e = deep_or_got e
 
-      viable_by : (ts : List Token) (n : ℕ) (o : Read A) → r ts ≡ o → (o >>= f) ≡ Stuck n → (p q : List Token) × (ts ≡ p ++ q) × (length q ≡ n) × (v : List Token) × (x : B) × Then S T (p ++ v) x
+      viable_by : (ts : List Token) (n : ℕ) (o : Read A) → r ts ≡ o → (o >>= f) ≡ Stuck n
+          → (p q : List Token) × (ts ≡ p ++ q) × (length q ≡ n) × (v : List Token) × (x : B) × Then S T (p ++ v) x
       viable_by ts n (Got x vs) p e =
           let a = first.sound ts vs x p in
           let b = (second x).viable vs n e in
@@ -134,13 +136,15 @@ module _ {A B : Type 0} (r : List Token → Read A) (f : A → List Token → Re
       viable_by ts n Deep p e = deep_or_stuck e
 
       -- the first part is what was read, and the rest agrees
-      first_by : (ts vs w k u v : List Token) (x y : A) (z : B) (n : ℕ) → r ts ≡ Got x vs → n ≤ length vs → S u y → T y v z → w ≡ u ++ v → Avoids H k → Upto ts n (w ++ k) → (ts ≡ u ++ vs) × (y ≡ x) × Upto vs n (v ++ k)
+      first_by : (ts vs w k u v : List Token) (x y : A) (z : B) (n : ℕ) → r ts ≡ Got x vs → n ≤ length vs → S u y → T y v z → w ≡ u ++ v → Avoids H k
+          → Upto ts n (w ++ k) → (ts ≡ u ++ vs) × (y ≡ x) × Upto vs n (v ++ k)
       first_by ts vs w k u v x y z n p h su tv e a up =
           let up' : Upto ts n (u ++ (v ++ k)) = subst (Upto ts n) (ap (λ m. m ++ k) e ∙ append_assoc u v k) up in
           let g = first.got ts vs u (v ++ k) x y n p h su (follow y v k z tv a) up' in
           (g.0, g.1, under u vs (v ++ k) n h (subst (λ m. Upto m n (u ++ (v ++ k))) g.0 up'))
 
-      got_by : (ts us w k : List Token) (z y : B) (n : ℕ) → n ≤ length us → Then S T w y → Avoids H k → Upto ts n (w ++ k) → (o : Read A) → r ts ≡ o → (o >>= f) ≡ Got z us → (ts ≡ w ++ us) × (y ≡ z)
+      got_by : (ts us w k : List Token) (z y : B) (n : ℕ) → n ≤ length us → Then S T w y → Avoids H k → Upto ts n (w ++ k) → (o : Read A) → r ts ≡ o
+          → (o >>= f) ≡ Got z us → (ts ≡ w ++ us) × (y ≡ z)
       got_by ts us w k z y n h s a up (Got x vs) p e =
           let b = (second x).sound vs us z e in
           let short : n ≤ length vs = rw b.1 (omega (arith, length-append b.0 us)) in
@@ -171,7 +175,8 @@ same_reader r q S G e law = record {
 }
 
 -- and of every language with the same spellings
-pub respell : {A : Type 0} (r : List Token → Read A) (S T : Lang A) (G : Kind → Bool) → ((w : List Token) (x : A) → S w x → T w x) → ((w : List Token) (x : A) → T w x → S w x) → Reads r S G → Reads r T G
+pub respell : {A : Type 0} (r : List Token → Read A) (S T : Lang A) (G : Kind → Bool) → ((w : List Token) (x : A) → S w x → T w x)
+    → ((w : List Token) (x : A) → T w x → S w x) → Reads r S G → Reads r T G
 respell r S T G to from law = record {
   some = let a = law.some in (a.0, a.1, to a.0 a.1 a.2);
   sound = λ ts us x h. let a = law.sound ts us x h in (a.0, a.1, to a.0 x a.2);
@@ -231,19 +236,23 @@ one {A} p value G kind is = record {
     sound [] us y e = stuck_or_got e
     sound (s ∷ ts) us y e = by (p s.kind) refl e
       where
-        by : (b : Bool) → p s.kind ≡ b → pick b (Got (value s) ts) (Stuck (length (s ∷ ts))) ≡ Got y us → (used : List Token) × (s ∷ ts ≡ used ++ us) × One p value used y
+        by : (b : Bool) → p s.kind ≡ b → pick b (Got (value s) ts) (Stuck (length (s ∷ ts))) ≡ Got y us
+            → (used : List Token) × (s ∷ ts ≡ used ++ us) × One p value used y
         by true h e = (s ∷ [], ap (λ v. s ∷ v) (got_list e), (s, refl, true_is (p s.kind) h, sym (got_value e)))
         by false h e = stuck_or_got e
 
-    viable : (ts : List Token) (n : ℕ) → take_at p value ts ≡ Stuck n → (f g : List Token) × (ts ≡ f ++ g) × (length g ≡ n) × (v : List Token) × (y : A) × One p value (f ++ v) y
+    viable : (ts : List Token) (n : ℕ) → take_at p value ts ≡ Stuck n
+        → (f g : List Token) × (ts ≡ f ++ g) × (length g ≡ n) × (v : List Token) × (y : A) × One p value (f ++ v) y
     viable [] n e = ([], [], refl, stuck_left e, token_of kind ∷ [], value (token_of kind), (token_of kind, refl, is, refl))
     viable (s ∷ ts) n e = by (p s.kind) e
       where
-        by : (b : Bool) → pick b (Got (value s) ts) (Stuck (length (s ∷ ts))) ≡ Stuck n → (f g : List Token) × (s ∷ ts ≡ f ++ g) × (length g ≡ n) × (v : List Token) × (y : A) × One p value (f ++ v) y
+        by : (b : Bool) → pick b (Got (value s) ts) (Stuck (length (s ∷ ts))) ≡ Stuck n
+            → (f g : List Token) × (s ∷ ts ≡ f ++ g) × (length g ≡ n) × (v : List Token) × (y : A) × One p value (f ++ v) y
         by true e = got_or_stuck e
         by false e = ([], s ∷ ts, refl, stuck_left e, token_of kind ∷ [], value (token_of kind), (token_of kind, refl, is, refl))
 
-    got : (ts us w k : List Token) (y z : A) (n : ℕ) → take_at p value ts ≡ Got y us → n ≤ length us → One p value w z → Avoids G k → Upto ts n (w ++ k) → (ts ≡ w ++ us) × (z ≡ y)
+    got : (ts us w k : List Token) (y z : A) (n : ℕ) → take_at p value ts ≡ Got y us → n ≤ length us → One p value w z → Avoids G k
+        → Upto ts n (w ++ k) → (ts ≡ w ++ us) × (z ≡ y)
     got [] us w k y z n e h s a u = stuck_or_got e
     got (s ∷ ts) us w k y z n e h d a u = by (p s.kind) e
       where
@@ -313,15 +322,18 @@ module _ {A : Type 0} (p : Kind → Bool) (r q : List Token → Read A) (S T : L
           by true e = let a = yes.sound (s ∷ ts) us x e in (a.0, a.1, inl a.2)
           by false e = let a = no.sound (s ∷ ts) us x e in (a.0, a.1, inr a.2)
 
-      viable : (ts : List Token) (n : ℕ) → choose p r q ts ≡ Stuck n → (f g : List Token) × (ts ≡ f ++ g) × (length g ≡ n) × (v : List Token) × (x : A) × Or S T (f ++ v) x
+      viable : (ts : List Token) (n : ℕ) → choose p r q ts ≡ Stuck n
+          → (f g : List Token) × (ts ≡ f ++ g) × (length g ≡ n) × (v : List Token) × (x : A) × Or S T (f ++ v) x
       viable [] n e = let a = no.viable [] n e in (a.0, a.1, a.2, a.3, a.4, a.5, inr a.6)
       viable (s ∷ ts) n e = by (p s.kind) e
         where
-          by : (b : Bool) → pick b (r (s ∷ ts)) (q (s ∷ ts)) ≡ Stuck n → (f g : List Token) × (s ∷ ts ≡ f ++ g) × (length g ≡ n) × (v : List Token) × (x : A) × Or S T (f ++ v) x
+          by : (b : Bool) → pick b (r (s ∷ ts)) (q (s ∷ ts)) ≡ Stuck n
+              → (f g : List Token) × (s ∷ ts ≡ f ++ g) × (length g ≡ n) × (v : List Token) × (x : A) × Or S T (f ++ v) x
           by true e = let a = yes.viable (s ∷ ts) n e in (a.0, a.1, a.2, a.3, a.4, a.5, inl a.6)
           by false e = let a = no.viable (s ∷ ts) n e in (a.0, a.1, a.2, a.3, a.4, a.5, inr a.6)
 
-      got : (ts us w k : List Token) (x y : A) (n : ℕ) → choose p r q ts ≡ Got x us → n ≤ length us → Or S T w y → Avoids G k → Upto ts n (w ++ k) → (ts ≡ w ++ us) × (y ≡ x)
+      got : (ts us w k : List Token) (x y : A) (n : ℕ) → choose p r q ts ≡ Got x us → n ≤ length us → Or S T w y → Avoids G k → Upto ts n (w ++ k)
+          → (ts ≡ w ++ us) × (y ≡ x)
       got [] us w k x y n e h (inl d) a u = absurd (nothing w k y n d u)
       got [] us w k x y n e h (inr d) a u = no.got [] us w k x y n e h d a u
       got (s ∷ ts) us w k x y n e h d a u = by (p s.kind) refl e d
@@ -347,7 +359,8 @@ module _ {A : Type 0} (p : Kind → Bool) (r q : List Token → Read A) (S T : L
 abbrev pub Mapped : {A B : Type 0} → Lang A → (A → B) → Lang B
 Mapped {A} S g w z = (x : A) × S w x × (z ≡ g x)
 
-pub mapped : {A B : Type 0} (r : List Token → Read A) (g : A → B) (S : Lang A) (G : Kind → Bool) → Reads r S G → Reads (λ ts. r ts >>= λ x us. Got (g x) us) (Mapped S g) G
+pub mapped : {A B : Type 0} (r : List Token → Read A) (g : A → B) (S : Lang A) (G : Kind → Bool) → Reads r S G
+    → Reads (λ ts. r ts >>= λ x us. Got (g x) us) (Mapped S g) G
 mapped {A} {B} r g S G law = respell (λ ts. r ts >>= λ x us. Got (g x) us) (Then S (λ x. End (g x))) (Mapped S g) G
     (λ w z s. (s.0, subst (λ m. S m s.0) (sym (s.5 ∙ ap (λ m. s.1 ++ m) s.4.0 ∙ append-nil s.1)) s.3, s.4.1))
     (λ w z s. (s.0, w, [], s.1, (refl, s.2), sym (append-nil w)))
@@ -368,7 +381,8 @@ pub front_less : (p q : Kind → Bool) → Sub p q → (w : List Token) → Fron
 front_less p q sub [] f = f
 front_less p q sub (t ∷ w) f = sub t.kind f
 
-pub then_starts : {A B : Type 0} (S : Lang A) (T : A → Lang B) (p : Kind → Bool) → ((w : List Token) (x : A) → S w x → Front p w) → (w : List Token) (z : B) → Then S T w z → Front p w
+pub then_starts : {A B : Type 0} (S : Lang A) (T : A → Lang B) (p : Kind → Bool) → ((w : List Token) (x : A) → S w x → Front p w)
+    → (w : List Token) (z : B) → Then S T w z → Front p w
 then_starts S T p h w z s = subst (Front p) (sym s.5) (front_append p s.1 s.2 (h s.1 s.0 s.3))
 
 -- what begins with one of these does not go on what takes others

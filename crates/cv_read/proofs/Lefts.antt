@@ -1,10 +1,9 @@
 -- Where so many tokens are left.
 use Rattle.std.proofs.Common.{◌≡◌, ℕ, zero, suc, ◌+◌, ◌-◌, ◌<◌, List, [], ◌∷◌, ◌++◌, length, drop, refl, sym, ◌∙◌, ap, subst, arith, length-append, ◌⊎◌, inl, inr}
-use Rattle.easl_model.specs.Brackets.{turned, level_after, Shallow}
-use Rattle.easl_model.specs.Spelling.{first_place}
+use Rattle.easl_model.specs.{Shallow, first_place, level_after, turned}
 use Rattle.easl_model.specs.declared.token.Token.{Token}
 use Rattle.easl_model.specs.declared.token.Tokens.{Tokens}
-use Rattle.cv_read.specs.Faults.{place_where, DeepAt}
+use Rattle.cv_read.specs.{DeepAt, place_where}
 use Rattle.cv_read.proofs.Depth.{shallow_append}
 
 drop_front : (p q : List Token) → drop (length p) (p ++ q) ≡ q

@@ -1,15 +1,15 @@
 -- Which languages close what they open, and which readers go too deep only where too many brackets stand.
 use Rattle.std.proofs.Common.{◌≡◌, ℕ, suc, Bool, List, [], ◌∷◌, ◌++◌, refl, ◌∙◌, ap, inl, inr}
-use Rattle.easl_model.specs.Brackets.{turned, level_after}
-use Rattle.easl_model.specs.Grammar.{IsMore, no_more, one_more, IsListed, nothing, listed}
-use Rattle.easl_model.specs.Lexemes.{is_literal}
+use Rattle.easl_model.specs.{IsListed, IsMore, is_literal, level_after, listed, no_more, nothing, one_more, turned}
 use Rattle.easl_model.specs.declared.token.Key.{Key}
 use Rattle.easl_model.specs.declared.token.Kind.{Kind}
 use Rattle.easl_model.specs.declared.token.Kind.TheVariants as kind
 use Rattle.easl_model.specs.declared.token.Mark.{Mark}
 use Rattle.easl_model.specs.declared.token.Mark.TheVariants as mark
 use Rattle.easl_model.specs.declared.token.Token.{Token}
-use Rattle.cv_read.specs.Read.{Read, Got, Stuck, Deep, ◌>>=◌, take_at, is_mark, is_key, is_name, nothing_of, mark_at, behind_mark, before_mark, more_at, commas_at, listed_at, parens_at}
+use Rattle.cv_read.specs.{Deep, Got, Stuck, before_mark, behind_mark, commas_at, is_key, is_mark, is_name, listed_at, mark_at, more_at, nothing_of, parens_at}
+use Rattle.cv_read.specs.{take_at, ◌>>=◌}
+use Rattle.cv_read.specs.Read.{Read}
 use Rattle.cv_read.proofs.Depth.{Even, Bounded, bounded_both, bounded_choose, bounded_take, bounded_got, bounded_bracket, bounded_items}
 use Rattle.cv_read.proofs.Laws.{Lang, Is, none, Front, Apart, Reads, Then, Mapped, Or, End, One, one, got_or_deep}
 use Rattle.cv_read.proofs.Repeats.{Star, Next, next_law, next_starts}
@@ -138,16 +138,20 @@ bounded_mapped {A} r g d bound ts b most e l m s = by (r ts) refl e
     by (Stuck k) p e = cc
     by Deep p e = bound ts b most p l m s
 
-pub bounded_led : {A B : Type 0} (p : Kind → Bool) (value : Token → A) (k : Kind) → Is (p k) → Flat p → (r : A → List Token → Read B) (d : ℕ) → ((x : A) → Bounded (r x) d) → Bounded (λ ts. take_at p value ts >>= r) d
+pub bounded_led : {A B : Type 0} (p : Kind → Bool) (value : Token → A) (k : Kind) → Is (p k) → Flat p → (r : A → List Token → Read B) (d : ℕ)
+    → ((x : A) → Bounded (r x) d) → Bounded (λ ts. take_at p value ts >>= r) d
 bounded_led p value k is flat r d bound = bounded_both (take_at p value) r (One p value) none d (one p value none k is) (even_one p value flat) (bounded_take p value d) bound
 
-pub bounded_closed : {A : Type 0} (m : Mark) (r : List Token → Read A) (S : Lang A) (G : Kind → Bool) (d : ℕ) → Reads r S G → Even S → Bounded r d → Bounded (before_mark m r) d
+pub bounded_closed : {A : Type 0} (m : Mark) (r : List Token → Read A) (S : Lang A) (G : Kind → Bool) (d : ℕ) → Reads r S G → Even S → Bounded r d
+    → Bounded (before_mark m r) d
 bounded_closed m r S G d reads even bound = bounded_both r (λ x us. mark_at m us >>= λ _ vs. Got x vs) S G d reads even bound (λ x. bounded_mapped (mark_at m) (λ _. x) d (bounded_take (is_mark m) nothing_of d))
 
-pub bounded_parens : {A : Type 0} (r : List Token → Read A) (S : Lang A) (G : Kind → Bool) (d : ℕ) → Reads r S G → Even S → Bounded r d → Bounded (parens_at r) (suc d)
+pub bounded_parens : {A : Type 0} (r : List Token → Read A) (S : Lang A) (G : Kind → Bool) (d : ℕ) → Reads r S G → Even S → Bounded r d
+    → Bounded (parens_at r) (suc d)
 bounded_parens r S G d reads even bound = bounded_bracket (is_mark mark.Open) nothing_of (λ _ us. before_mark mark.Close r us) d open_opens (λ _. bounded_closed mark.Close r S G d reads even bound)
 
-pub bounded_listed : {A : Type 0} (p : Kind → Bool) (item : List Token → Read A) (I : Lang A) (G : Kind → Bool) (reads : Reads item I G) (starts : (w : List Token) (x : A) → I w x → Front p w) (apart : Apart (is_mark mark.Comma) G) (d : ℕ) → Even I → Bounded item d → Bounded (listed_at p item) d
+pub bounded_listed : {A : Type 0} (p : Kind → Bool) (item : List Token → Read A) (I : Lang A) (G : Kind → Bool) (reads : Reads item I G) (starts : (w : List Token) (x : A) → I w x → Front p w) (apart : Apart (is_mark mark.Comma) G) (d : ℕ)
+    → Even I → Bounded item d → Bounded (listed_at p item) d
 bounded_listed p item I G reads starts apart d even bound = bounded_choose p (commas_at item) (λ ts. Got [] ts) d
     (bounded_both item (λ x us. more_at item us >>= λ xs vs. Got (x ∷ xs) vs) I G d reads even bound
     (λ x. bounded_mapped (more_at item) (λ xs. x ∷ xs) d

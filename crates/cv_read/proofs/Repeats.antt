@@ -1,11 +1,13 @@
 -- A repetition of items that begin with one of a set of kinds, and lists with commas.
 use Rattle.std.proofs.Common.{◌≡◌, ℕ, zero, suc, Bool, true, false, ◌||◌, List, [], ◌∷◌, ◌++◌, length, refl, sym, ◌∙◌, ap, subst, append-nil, inl, inr, Option, Some, None}
-use Rattle.easl_model.specs.Grammar.{IsMany, none_of, next_of, IsMore, no_more, one_more, IsListed, nothing, listed}
+use Rattle.easl_model.specs.{IsListed, IsMany, IsMore, listed, next_of, no_more, none_of, nothing, one_more}
 use Rattle.easl_model.specs.declared.token.Kind.{Kind}
 use Rattle.easl_model.specs.declared.token.Kind.TheVariants as kind
 use Rattle.easl_model.specs.declared.token.Mark.TheVariants as mark
 use Rattle.easl_model.specs.declared.token.Token.{Token}
-use Rattle.cv_read.specs.Read.{Read, Got, Stuck, Deep, ◌>>=◌, choose, pick, is_mark, nothing_of, behind_mark, step_at, many_at, items_at, then_more, put_front, more_at, commas_at, listed_at}
+use Rattle.cv_read.specs.{Deep, Got, Stuck, behind_mark, choose, commas_at, is_mark, items_at, listed_at, many_at, more_at, nothing_of, pick, put_front}
+use Rattle.cv_read.specs.{step_at, then_more, ◌>>=◌}
+use Rattle.cv_read.specs.Read.{Read}
 use Rattle.cv_read.proofs.Tested.{mark_to, mark_from, mark_self}
 use Rattle.cv_read.proofs.Laws.{Lang, Is, either, Avoids, Front, Apart, Reads, Then, Mapped, Or, End, both, choice, empty, mapped, never, respell, same_reader, widen, avoids_less, front_append, front_less, then_starts}
 use Rattle.cv_read.proofs.Words.{Led, led, led_starts, or_nothing}
@@ -57,7 +59,8 @@ module _ {A : Type 0} (p : Kind → Bool) (item : List Token → Read A) (I : La
   as_choice n [] = refl
   as_choice n (t ∷ ts) = by (p t.kind)
     where
-      by : (b : Bool) → then_more (many_at step n) (pick b (item (t ∷ ts) >>= λ x us. Got (Some x) us) (Got None (t ∷ ts))) ≡ pick b (item (t ∷ ts) >>= then_rest n) (Got [] (t ∷ ts))
+      by : (b : Bool)
+          → then_more (many_at step n) (pick b (item (t ∷ ts) >>= λ x us. Got (Some x) us) (Got None (t ∷ ts))) ≡ pick b (item (t ∷ ts) >>= then_rest n) (Got [] (t ∷ ts))
       by true = on_item n (item (t ∷ ts))
       by false = refl
 
@@ -104,7 +107,8 @@ module _ {A : Type 0} (p : Kind → Bool) (item : List Token → Read A) (I : La
   }
 
 -- what a repetition and then this begins with
-pub star_starts : {A B : Type 0} (I : Lang A) (T : List A → Lang B) (p q : Kind → Bool) → ((w : List Token) (x : A) → I w x → Front p w) → ((xs : List A) (w : List Token) (z : B) → T xs w z → Front q w) → (w : List Token) (z : B) → Then (Star I) T w z → Front (either p q) w
+pub star_starts : {A B : Type 0} (I : Lang A) (T : List A → Lang B) (p q : Kind → Bool) → ((w : List Token) (x : A) → I w x → Front p w)
+    → ((xs : List A) (w : List Token) (z : B) → T xs w z → Front q w) → (w : List Token) (z : B) → Then (Star I) T w z → Front (either p q) w
 star_starts {A} I T p q first second w z s = subst (Front (either p q)) (sym s.5) (by s.0 s.1 s.3)
   where
     by : (xs : List A) (u : List Token) → Star I u xs → Front (either p q) (u ++ s.2)

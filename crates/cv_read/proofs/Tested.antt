@@ -1,7 +1,7 @@
 -- Which tokens the tests of kinds let through.
 use Rattle.std.proofs.Common.{◌≡◌, ℕ, Bool, true, false, List, refl, sym, ap, subst}
 use denote.Enum.Bare.{same_true, true_same}
-use Rattle.easl_model.specs.Lexemes.{is_literal, word_of, IsMark, IsKey, IsName, IsLiteral}
+use Rattle.easl_model.specs.{IsKey, IsLiteral, IsMark, IsName, is_literal, word_of}
 use Rattle.easl_model.specs.contracts.token.Key.{the_type as the_keys}
 use Rattle.easl_model.specs.contracts.token.Mark.{the_type as the_marks}
 use Rattle.easl_model.specs.declared.token.Key.{Key}
@@ -10,7 +10,7 @@ use Rattle.easl_model.specs.declared.token.Kind.TheVariants as kind
 use Rattle.easl_model.specs.declared.token.Mark.{Mark}
 use Rattle.easl_model.specs.declared.token.Token.{Token}
 use Rattle.easl_model.specs.declared.tree.Word.{Word}
-use Rattle.cv_read.specs.Read.{is_mark, is_key, is_name}
+use Rattle.cv_read.specs.{is_key, is_mark, is_name}
 use Rattle.cv_read.proofs.Laws.{Is, true_is}
 
 pub is_so : (b : Bool) → Is b → b ≡ true

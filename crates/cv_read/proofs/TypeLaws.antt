@@ -1,7 +1,6 @@
 -- The readers of types and parameters read their grammar.
 use Rattle.std.proofs.Common.{◌≡◌, ℕ, suc, Bool, List, [], ◌∷◌, ◌++◌, refl, sym, ◌∙◌, ap, subst, inl, inr}
-use Rattle.easl_model.specs.Grammar.{opaque_key, IsListed, IsType, opaque_type, class_type, IsParam, param, IsParams, params}
-use Rattle.easl_model.specs.Lexemes.{word_of, IsKey}
+use Rattle.easl_model.specs.{IsKey, IsListed, IsParam, IsParams, IsType, class_type, opaque_key, opaque_type, param, params, word_of}
 use Rattle.easl_model.specs.declared.place.Place.{Place}
 use Rattle.easl_model.specs.declared.token.Key.TheVariants as key
 use Rattle.easl_model.specs.declared.token.Kind.{Kind}
@@ -14,8 +13,8 @@ use Rattle.easl_model.specs.declared.tree.Param.{Param}
 use Rattle.easl_model.specs.declared.tree.Sort.{Sort}
 use Rattle.easl_model.specs.declared.tree.Sort.TheVariants as sort
 use Rattle.easl_model.specs.declared.tree.Word.{Word}
-use Rattle.cv_read.specs.Read.{is_mark, is_name}
-use Rattle.cv_read.specs.Types.{is_opaque, opaque_in, opaque_of, placed_opaque, opaque_at, type_at, type_starts, param_behind, param_at, params_at}
+use Rattle.cv_read.specs.{is_mark, is_name, is_opaque, opaque_at, opaque_in, opaque_of, param_at, param_behind, params_at, placed_opaque, type_at}
+use Rattle.cv_read.specs.{type_starts}
 use Rattle.cv_read.proofs.Laws.{Lang, Is, none, Front, Apart, Or, End, no_none}
 use Rattle.cv_read.proofs.Levels.{Flat, name_flat}
 use Rattle.cv_read.proofs.Repeats.{or_left, or_right}

@@ -1,10 +1,9 @@
 -- The loop that counts unclosed brackets.
 use Rattle.std.proofs.Common.{◌≡◌, ℕ, ◌<◌, ◌≤◌, List, [], ◌∷◌, ◌++◌, length, refl, sym, ◌∙◌, ap, subst, arith, append_assoc, append-nil}
-use Rattle.easl_model.specs.Brackets.{turned, level_after, StaysShallow, Shallow}
+use Rattle.easl_model.specs.{Shallow, StaysShallow, level_after, turned}
 use Rattle.easl_model.specs.declared.token.Kind.{Kind}
 use Rattle.easl_model.specs.declared.token.Token.{Token}
-use Rattle.cv_read.specs.Read.{FirstIs}
-use Rattle.cv_read.specs.Faults.{DeepAt}
+use Rattle.cv_read.specs.{DeepAt, FirstIs}
 
 pub level-append : (b : ℕ) (u v : List Token) → level_after b (u ++ v) ≡ level_after (level_after b u) v
 level-append b [] v = refl
@@ -25,7 +24,8 @@ one_more : (b : ℕ) (p : List Token) (t : Token) → StaysShallow 64 b p → tu
 one_more b [] t s h = (h, tt)
 one_more b (z ∷ p) t s h = (s.0, one_more (turned b z.kind) p t s.1 h)
 
-pub goes_on : (whole rest after : List Token) (level next : ℕ) (k : Kind) → IsCounted whole rest level → FirstIs k after rest → next ≡ turned level k → next ≤ 64 → IsCounted whole after next
+pub goes_on : (whole rest after : List Token) (level next : ℕ) (k : Kind) → IsCounted whole rest level → FirstIs k after rest → next ≡ turned level k
+    → next ≤ 64 → IsCounted whole after next
 goes_on whole [] after level next k c f n h = absurd f
 goes_on whole (t ∷ ts) after level next k c f n h =
     let n' : next ≡ turned (level_after 0 c.front) t.kind = n ∙ ap (λ b. turned b k) c.counts ∙ ap (turned (level_after 0 c.front)) (sym f.0) in
@@ -40,7 +40,8 @@ goes_on whole (t ∷ ts) after level next k c f n h =
 pub ends : (whole rest : List Token) (level : ℕ) → IsCounted whole rest level → rest ≡ [] → Shallow whole
 ends whole rest level c e = subst Shallow (sym (c.splits ∙ ap (λ m. c.front ++ m) e ∙ append-nil c.front)) c.shallow
 
-pub too_many : (whole rest after : List Token) (level next : ℕ) (k : Kind) → IsCounted whole rest level → FirstIs k after rest → next ≡ turned level k → 64 < next → DeepAt whole (length rest)
+pub too_many : (whole rest after : List Token) (level next : ℕ) (k : Kind) → IsCounted whole rest level → FirstIs k after rest → next ≡ turned level k
+    → 64 < next → DeepAt whole (length rest)
 too_many whole [] after level next k c f n h = absurd f
 too_many whole (t ∷ ts) after level next k c f n h =
     let n' : next ≡ turned (level_after 0 c.front) t.kind = n ∙ ap (λ b. turned b k) c.counts ∙ ap (turned (level_after 0 c.front)) (sym f.0) in (

@@ -1,10 +1,10 @@
 -- What the law of a reader says of a whole text.
 use Rattle.std.proofs.Common.{◌≡◌, ℕ, suc, ◌+◌, ◌<◌, Bool, List, [], ◌∷◌, ◌++◌, length, refl, sym, ◌∙◌, ap, subst, arith, append_assoc, append-nil, length-append, ◌⊎◌, inl, inr}
-use Rattle.easl_model.specs.Spelling.{Ends}
+use Rattle.easl_model.specs.{Ends}
 use Rattle.easl_model.specs.declared.token.Kind.{Kind}
 use Rattle.easl_model.specs.declared.token.Token.{Token}
-use Rattle.cv_read.specs.Faults.{WrongAt}
-use Rattle.cv_read.specs.Read.{Read, Got, Stuck, Deep, ◌>>=◌, done_at, whole_at}
+use Rattle.cv_read.specs.{Deep, Got, Stuck, WrongAt, done_at, whole_at, ◌>>=◌}
+use Rattle.cv_read.specs.Read.{Read}
 use Rattle.cv_read.proofs.Lefts.{fronts, order}
 use Rattle.cv_read.proofs.Laws.{Lang, Upto, Reads, got_value, stuck_left, got_or_stuck, stuck_or_got, deep_or_got, deep_or_stuck}
 

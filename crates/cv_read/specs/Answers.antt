@@ -4,9 +4,7 @@ use Rattle.std.specs.Prelude.{◌≡◌, ◌≢◌, ℕ, List, ◌∷◌, ◌++�
 use Rattle.cv_lex.specs.declared.fault.TextFault.{TextFault}
 use Rattle.cv_lex.specs.declared.fault.TextFault.TheVariants.{NotUtf8, BadToken, Limit, Syntax, Memory}
 use Rattle.easl_model.specs.declared.fault.Which.TheVariants.{Nesting}
-use Rattle.easl_model.specs.Brackets.{Shallow, IsFirstDeep}
-use Rattle.easl_model.specs.Spelling.{FirstWrong, first_place}
-use Rattle.easl_model.specs.Tokens.{AreTokens, IsNotUtf8At, IsBadTokenAt}
+use Rattle.easl_model.specs.{AreTokens, FirstWrong, IsBadTokenAt, IsFirstDeep, IsNotUtf8At, Shallow, first_place}
 use Rattle.easl_model.specs.declared.place.Place.{Place}
 use Rattle.easl_model.specs.declared.token.Token.{Token}
 use Rattle.easl_model.specs.declared.token.Tokens.{Tokens}

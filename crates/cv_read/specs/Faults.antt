@@ -3,8 +3,7 @@ use Rattle.std.specs.Prelude.{◌≡◌, ℕ, ◌-◌, List, ◌∷◌, ◌++◌
 use Rattle.cv_lex.specs.declared.fault.TextFault.{TextFault}
 use Rattle.cv_lex.specs.declared.fault.TextFault.TheVariants as text
 use Rattle.easl_model.specs.declared.fault.Which.TheVariants as which
-use Rattle.easl_model.specs.Brackets.{Shallow, IsFirstDeep}
-use Rattle.easl_model.specs.Spelling.{FirstWrong, first_place}
+use Rattle.easl_model.specs.{FirstWrong, IsFirstDeep, Shallow, first_place}
 use Rattle.easl_model.specs.declared.place.Place.{Place}
 use Rattle.easl_model.specs.declared.token.Token.{Token}
 use Rattle.easl_model.specs.declared.token.Tokens.{Tokens}

@@ -3,7 +3,7 @@
 use Rattle.std.specs.Prelude.{◌≡◌, ℕ, zero, suc, Bool, true, false, Option, Some, None, MatchOption, List, [], ◌∷◌, ◌++◌, length, Ok, Err, Result}
 use denote.Enum.Bare.{sameb}
 use denote.Ref.{Bor}
-use Rattle.easl_model.specs.Lexemes.{is_literal, word_of}
+use Rattle.easl_model.specs.{is_literal, word_of}
 use Rattle.easl_model.specs.contracts.token.Key.{the_type as the_keys}
 use Rattle.easl_model.specs.contracts.token.Mark.{the_type as the_marks}
 use Rattle.easl_model.specs.declared.place.Place.{Place}

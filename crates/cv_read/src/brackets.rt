@@ -1,7 +1,7 @@
 //! The brackets that stand open at a token.
 ghost use Rattle.std.specs.Prelude.{◌≡◌, ◌≤◌};
 ghost use Rattle.easl_model.specs.Brackets as brackets;
-ghost use Rattle.cv_read.specs.Faults.{Nests};
+ghost use Rattle.cv_read.specs.{Nests};
 
 use crate::fault::ReadFault;
 use crate::taking::front;

@@ -1,6 +1,6 @@
 //! Why a text does not become a tree.
 ghost use Rattle.std.specs.Prelude.{◌≡◌};
-ghost use Rattle.cv_read.specs.Faults.{placed};
+ghost use Rattle.cv_read.specs.{placed};
 ghost use Rattle.cv_read.specs.Faults as faults;
 ghost use Rattle.cv_read.specs.declared.fault.ReadFault.TheVariants.{Memory};
 

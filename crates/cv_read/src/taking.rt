@@ -1,7 +1,8 @@
 //! Taking one token, where it is the one that must stand there.
 ghost use Rattle.std.specs.Prelude.{◌≡◌, ◌≢◌, ◌+◌, ◌∷◌, ◌<◌, [], ◌&&◌, length, chars, string_bytes, MatchOption, IfOk, IfErr, IfSome, IsTrue, nat_le};
-ghost use Rattle.easl_model.specs.Lexemes.{TokensAreWritten, bytes_of, is_literal, word_of};
-ghost use Rattle.cv_read.specs.Read.{Gives, GivesRest, Finds, FindsRest, FirstIs, begins, is_mark, is_key, is_name, place_of, mark_at, mark_place_at, key_at, name_at, literal_at};
+ghost use Rattle.easl_model.specs.{TokensAreWritten, bytes_of, is_literal, word_of};
+ghost use Rattle.cv_read.specs.{Finds, FindsRest, FirstIs, Gives, GivesRest, begins, is_key, is_mark, is_name, key_at, literal_at, mark_at, mark_place_at};
+ghost use Rattle.cv_read.specs.{name_at, place_of};
 ghost use Rattle.cv_read.specs.declared.fault.ReadFault.TheVariants.{Memory};
 
 use crate::fault::ReadFault;

@@ -1,7 +1,7 @@
 //! Types and parameters, which are those of both languages.
 ghost use Rattle.std.specs.Prelude.{◌≡◌, ◌<◌, ◌≤◌, true, false, length, IfOk, IfSome, IsSome, MatchOption};
-ghost use Rattle.cv_read.specs.Read.{Gives, Finds, begins, commas_at, more_at, next_at, listed_at};
-ghost use Rattle.cv_read.specs.Types.{is_opaque, opaque_in, opaque_of, placed_opaque, type_starts, opaque_at, type_at, class_type_at, param_behind, opaque_param_at, class_param_at, param_at, params_at};
+ghost use Rattle.cv_read.specs.{Finds, Gives, begins, class_param_at, class_type_at, commas_at, is_opaque, listed_at, more_at, next_at, opaque_at, opaque_in};
+ghost use Rattle.cv_read.specs.{opaque_of, opaque_param_at, param_at, param_behind, params_at, placed_opaque, type_at, type_starts};
 
 use crate::fault::ReadFault;
 use crate::taking::{Source, after_mark, front, mark, name, next};

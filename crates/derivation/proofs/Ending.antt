@@ -6,7 +6,7 @@ use Rattle.std.proofs.lemmas.Option.{slice_get_within}
 use Rattle.easl_model.specs.Form.{Form}
 use Rattle.easl_model.specs.declared.form.Method.{Method}
 use Rattle.access_paths.specs.declared.term.Family.{Family}
-use Rattle.method_abstraction.specs.Asking.{clause_count, clause_questions, clauses_from, questions, result_sets, update_questions, updates_by, updates_from}
+use Rattle.method_abstraction.specs.{clause_count, clause_questions, clauses_from, questions, result_sets, update_questions, updates_by, updates_from}
 use Rattle.method_abstraction.specs.declared.entry.Abstraction.{Abstraction}
 use Rattle.method_abstraction.specs.declared.entry.ClauseFacts.{ClauseFacts}
 use Rattle.method_abstraction.specs.declared.entry.Question.{Question}

@@ -3,29 +3,23 @@ use Rattle.std.proofs.Common.{◌≡◌, ℕ, zero, suc, ◌<◌, ◌≤◌, Boo
 use Rattle.std.specs.List.{AllZip}
 use Rattle.std.proofs.lemmas.List.Elements.{Contains-append_cases}
 use Rattle.std.proofs.lemmas.Option.{get_or_from_slice_get, slice_get_within}
-use Rattle.easl_model.specs.Checked.{IsChecked}
-use Rattle.easl_model.specs.Conditions.{condition_of}
-use Rattle.easl_model.specs.Form.{Form, MethodInRange}
+use Rattle.easl_model.specs.{IsChecked, MethodInRange, condition_of}
+use Rattle.easl_model.specs.Form.{Form}
 use Rattle.easl_model.specs.declared.form.Method.{Method}
 use Rattle.easl_model.proofs.InRange.{checked_in_range}
-use Rattle.access_paths.specs.Arguments.{HasKnownVariables}
-use Rattle.access_paths.specs.Fitting.{Fits}
+use Rattle.access_paths.specs.{Fits, HasKnownVariables, before_call, no_family, variables_of}
 use Rattle.access_paths.specs.Trees.{Tree}
-use Rattle.access_paths.specs.Variables.{before_call, no_family, variables_of}
 use Rattle.access_paths.specs.declared.term.Family.{Family}
 use Rattle.access_paths.specs.declared.term.Instance.{Instance}
 use Rattle.access_paths.proofs.Members.{head_member, no_member, tail_member, which_member}
 use Rattle.access_paths.proofs.Substituted.{all_members}
-use Rattle.case_model.specs.Care.{clauses_hold}
-use Rattle.case_model.specs.Configurations.{IsConfiguration, by_blocks}
-use Rattle.case_model.specs.TermLists.{HaveClasses, question_variables, terms_asked}
+use Rattle.case_model.specs.{HaveClasses, IsConfiguration, by_blocks, clauses_hold, question_variables, terms_asked}
 use Rattle.question_model.proofs.AskedTerms.{update_asks_terms}
 use Rattle.question_model.specs.{IsTree, update}
 use Rattle.weakest_pre.specs.Running.{most}
 use Rattle.cube_search.specs.Lists.{Each}
 use Rattle.cube_cover.proofs.Named.{each_get}
-use Rattle.method_abstraction.specs.Asking.{clause_questions, questions, update_questions}
-use Rattle.method_abstraction.specs.Exact.{HasExactEntries, IsClauseEntry, IsDisjunctOf, IsUpdateEntry}
+use Rattle.method_abstraction.specs.{HasExactEntries, IsClauseEntry, IsDisjunctOf, IsUpdateEntry, clause_questions, questions, update_questions}
 use Rattle.method_abstraction.specs.declared.entry.Abstraction.{Abstraction}
 use Rattle.method_abstraction.specs.declared.entry.ClauseFacts.{ClauseFacts}
 use Rattle.method_abstraction.specs.declared.entry.Disjunct.{Disjunct}

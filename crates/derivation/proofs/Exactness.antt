@@ -4,24 +4,21 @@ use Rattle.std.specs.List.{AllZip, filter}
 use Rattle.std.specs.Option.{option_map_or}
 use Rattle.std.proofs.lemmas.List.Elements.{Contains-append_left, Contains-append_right}
 use Rattle.std.proofs.lemmas.List.Folds.{Any-from_list_any, list_any-from_Any}
-use Rattle.access_paths.specs.Trees.{Tree, answer}
-use Rattle.access_paths.specs.Truth.{by_objects, cube_holds}
+use Rattle.access_paths.specs.{answer, by_objects, cube_holds}
+use Rattle.access_paths.specs.Trees.{Tree}
 use Rattle.access_paths.specs.declared.term.Cube.{Cube}
 use Rattle.access_paths.specs.declared.term.Family.{Family}
 use Rattle.access_paths.specs.declared.term.Term.{Term}
 use Rattle.access_paths.proofs.Instances.{family_keeps_truth}
 use Rattle.access_paths.proofs.Members.{head_member, tail_member, which_member}
 use Rattle.access_paths.proofs.Substituted.{all_members}
-use Rattle.case_model.specs.Care.{clauses_hold}
-use Rattle.case_model.specs.Configurations.{by_blocks}
-use Rattle.case_model.specs.Disjuncts.{AreDisjuncts, FallsShort, IsTrueAt}
-use Rattle.case_model.specs.TermLists.{HasTerms, terms_asked, terms_of_clauses, terms_of_cube, terms_of_tree}
+use Rattle.case_model.specs.{AreDisjuncts, FallsShort, HasTerms, IsTrueAt, by_blocks, clauses_hold, terms_asked, terms_of_clauses, terms_of_cube}
+use Rattle.case_model.specs.{terms_of_tree}
 use Rattle.case_model.proofs.Terms.{asked_are_there}
 use Rattle.question_model.proofs.AskedTerms.{update_asks_terms}
 use Rattle.question_model.proofs.Truths.{clause_law, update_law}
 use Rattle.weakest_pre.specs.Running.{most}
-use Rattle.method_abstraction.specs.Exact.{disjunct_holds}
-use Rattle.method_abstraction.specs.Laws.{SaysSame, one_holds}
+use Rattle.method_abstraction.specs.{SaysSame, disjunct_holds, one_holds}
 use Rattle.method_abstraction.specs.declared.entry.Disjunct.{Disjunct}
 use Rattle.method_abstraction.specs.declared.entry.Disjunct.TheVariants as disjunct
 use Rattle.method_abstraction.proofs.Exactness.{clauses_are_exact, updates_are_exact}

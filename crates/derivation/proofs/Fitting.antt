@@ -7,11 +7,8 @@ use Rattle.std.proofs.lemmas.List.Sums.{length-filter}
 use Rattle.std.proofs.lemmas.Option.{get_or_from_slice_get, slice_get-get_or}
 use Rattle.easl_model.specs.Form.{Form}
 use Rattle.easl_model.proofs.Items.{zip_from}
-use Rattle.access_paths.specs.Arguments.{below, has, var, variables}
-use Rattle.access_paths.specs.Families.{HasVariable, IsFamilyOf, place_of}
-use Rattle.access_paths.specs.Fitting.{Fits, IsLiteralOf, IsTermOf}
-use Rattle.access_paths.specs.Renaming.{renamed, renamed_term}
-use Rattle.access_paths.specs.Terms.{compare_terms}
+use Rattle.access_paths.specs.{Fits, HasVariable, IsFamilyOf, IsLiteralOf, IsTermOf, below, compare_terms, has, place_of, renamed, renamed_term, var}
+use Rattle.access_paths.specs.{variables}
 use Rattle.access_paths.specs.declared.term.Cube.{Cube}
 use Rattle.access_paths.specs.declared.term.Instance.{Instance}
 use Rattle.access_paths.specs.declared.term.Literal.{Literal}
@@ -22,8 +19,7 @@ use Rattle.access_paths.proofs.Members.{Distinct, head_apart, head_member, in_fl
 use Rattle.access_paths.proofs.Places.{place_found}
 use Rattle.access_paths.proofs.Substituted.{all_members}
 use Rattle.access_paths.proofs.Variables.{variables_listed}
-use Rattle.case_model.specs.Disjuncts.{variable_count}
-use Rattle.case_model.specs.TermLists.{HasTerms, HaveClasses, terms_of_cube}
+use Rattle.case_model.specs.{HasTerms, HaveClasses, terms_of_cube, variable_count}
 use Rattle.cube_cover.proofs.Named.{map_at}
 
 -- a list without an item

@@ -15,7 +15,7 @@ use Rattle.access_paths.specs.declared.term.Family.{Family}
 use Rattle.access_paths.specs.declared.term.Instance.{Instance}
 use Rattle.access_paths.specs.declared.term.Literal.{Literal}
 use Rattle.access_paths.specs.declared.term.Term.{Term}
-use Rattle.access_paths.specs.Same.{same_family}
+use Rattle.access_paths.specs.{same_family}
 use Rattle.access_paths.proofs.Members.{no_member, which_member}
 use Rattle.method_abstraction.specs.declared.entry.Disjunct.{Disjunct}
 use Rattle.method_abstraction.specs.declared.entry.Disjunct.TheVariants as disjunct

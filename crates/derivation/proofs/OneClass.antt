@@ -10,19 +10,16 @@ use Rattle.std.proofs.lemmas.List.Elements.{Contains-append_cases, Contains-appe
 use Rattle.std.proofs.lemmas.Option.{get_or_from_slice_get, slice_get_within}
 use Rattle.easl_model.specs.Form.{Form}
 use Rattle.easl_model.proofs.Items.{zip_from}
-use Rattle.access_paths.specs.Fitting.{IsLiteralOf, IsTermOf}
-use Rattle.access_paths.specs.Terms.{Ascend, IsCube, IsLiteral, compare_cubes, compare_literals}
-use Rattle.access_paths.specs.Trees.{Tree, answer}
-use Rattle.access_paths.specs.Truth.{Equals, cube_holds, literal_holds}
+use Rattle.access_paths.specs.{Ascend, Equals, IsCube, IsLiteral, IsLiteralOf, IsTermOf, answer, compare_cubes, compare_literals, cube_holds, literal_holds}
+use Rattle.access_paths.specs.Trees.{Tree}
 use Rattle.access_paths.specs.declared.term.Cube.{Cube}
 use Rattle.access_paths.specs.declared.term.Literal.{Literal}
 use Rattle.access_paths.specs.declared.term.Term.{Term}
 use Rattle.access_paths.proofs.Members.{head_member, in_flat_map, no_member, of_flat_map, tail_member, which_member}
 use Rattle.access_paths.proofs.Orders.{cubes_total, literals_total}
 use Rattle.access_paths.proofs.Substituted.{all_members}
-use Rattle.case_model.specs.Configurations.{IsConfiguration, by_blocks, place_of}
-use Rattle.case_model.specs.Disjuncts.{Adds, AreDisjuncts, IsImplicant, IsTrueAt, IsWidest, variable_count}
-use Rattle.case_model.specs.TermLists.{HasTerms, HaveClasses, terms_of_cube}
+use Rattle.case_model.specs.{Adds, AreDisjuncts, HasTerms, HaveClasses, IsConfiguration, IsImplicant, IsTrueAt, IsWidest, by_blocks, place_of, terms_of_cube}
+use Rattle.case_model.specs.{variable_count}
 use Rattle.case_model.proofs.Terms.{found_at}
 use Rattle.cube_cover.proofs.Few.{few_less}
 use Rattle.cube_cover.proofs.Named.{contains_in, get_each}

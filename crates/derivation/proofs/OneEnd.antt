@@ -7,7 +7,7 @@ use Rattle.std.proofs.lemmas.Option.{get_or_from_slice_get, slice_get_within}
 use Rattle.easl_model.specs.Form.{Form}
 use Rattle.access_paths.specs.declared.term.Family.{Family}
 use Rattle.access_paths.proofs.Members.{Distinct, none_distinct, put_distinct}
-use Rattle.method_abstraction.specs.Asking.{clause_questions, questions, update_questions}
+use Rattle.method_abstraction.specs.{clause_questions, questions, update_questions}
 use Rattle.method_abstraction.specs.declared.entry.Abstraction.{Abstraction}
 use Rattle.method_abstraction.specs.declared.entry.ClauseFacts.{ClauseFacts}
 use Rattle.method_abstraction.specs.declared.entry.Disjunct.{Disjunct}

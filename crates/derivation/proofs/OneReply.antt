@@ -10,8 +10,8 @@ use Rattle.std.proofs.lemmas.Cmp.{nat_list_cmp_total, tied_itself}
 use Rattle.std.proofs.lemmas.List.Elements.{Contains-append_cases, Contains-append_left, Contains-append_right}
 use Rattle.easl_model.specs.Form.{Form}
 use Rattle.easl_model.specs.declared.form.Method.{Method}
-use Rattle.easl_heap.specs.Full.{FieldsLead}
-use Rattle.access_paths.specs.Terms.{compare_cubes, compare_terms}
+use Rattle.easl_heap.specs.{FieldsLead}
+use Rattle.access_paths.specs.{compare_cubes, compare_terms}
 use Rattle.access_paths.specs.Trees.{Tree}
 use Rattle.access_paths.specs.declared.term.Cube.{Cube}
 use Rattle.access_paths.specs.declared.term.Family.{Family}
@@ -21,17 +21,16 @@ use Rattle.access_paths.proofs.Exact.{instances_exact}
 use Rattle.access_paths.proofs.Instances.{one_family}
 use Rattle.access_paths.proofs.Members.{head_member, no_member, tail_member, which_member}
 use Rattle.access_paths.proofs.Orders.{cubes_total, terms_total}
-use Rattle.case_model.specs.Configurations.{AreConfigurations, IsConfiguration}
-use Rattle.case_model.specs.Disjuncts.{Adds, AreDisjuncts, FallsShort}
-use Rattle.case_model.specs.TermLists.{HaveClasses, question_variables}
-use Rattle.question_model.specs.{IsLong, IsTree, fails, update}
+use Rattle.case_model.specs.{Adds, AreConfigurations, AreDisjuncts, FallsShort, HaveClasses, IsConfiguration, question_variables}
+use Rattle.question_model.specs.{IsTree, fails, update}
+use Rattle.question_model.specs.Split.{IsLong}
 use Rattle.question_model.specs.Stage.{Stage}
 use Rattle.question_model.specs.declared.answer.Answer.{Answer}
 use Rattle.question_model.proofs.TreeLaws.{one_tree, tree_or_long}
 use Rattle.cube_search.specs.Lists.{Each, Rises}
 use Rattle.cube_search.proofs.Lists.{each-in}
 use Rattle.cube_cover.proofs.Named.{contains_in, pairs_rises}
-use Rattle.easl_model.specs.Conditions.{condition_of}
+use Rattle.easl_model.specs.{condition_of}
 use Rattle.weakest_pre.specs.Running.{most}
 use Rattle.method_abstraction.specs.declared.entry.Question.{Question}
 use Rattle.method_abstraction.specs.declared.entry.Question.TheVariants.{Clause, Update}

@@ -7,12 +7,11 @@ use Rattle.std.proofs.lemmas.List.Elements.{Contains-append_cases}
 use Rattle.std.proofs.lemmas.Option.{slice_get_within}
 use Rattle.easl_model.specs.Form.{Form}
 use Rattle.easl_model.specs.declared.form.Method.{Method}
-use Rattle.access_paths.specs.Fitting.{Fits}
-use Rattle.access_paths.specs.Variables.{AreResults, put}
+use Rattle.access_paths.specs.{AreResults, Fits, put}
 use Rattle.access_paths.specs.declared.term.Family.{Family}
 use Rattle.access_paths.proofs.Members.{head_member, no_member, of_map, tail_member, which_member}
 use Rattle.access_paths.proofs.Substituted.{all_members}
-use Rattle.method_abstraction.specs.Asking.{clause_count, clause_questions, clauses_from, gives, may_stand, result_sets, updates_by}
+use Rattle.method_abstraction.specs.{clause_count, clause_questions, clauses_from, gives, may_stand, result_sets, updates_by}
 use Rattle.method_abstraction.specs.declared.entry.Question.{Question}
 use Rattle.method_abstraction.specs.declared.entry.Question.TheVariants.{Clause, Update}
 use Rattle.derivation.specs.Rounds.{IsQuestion}

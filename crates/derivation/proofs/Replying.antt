@@ -8,9 +8,7 @@ use Rattle.std.proofs.lemmas.Option.{slice_get-get_or, slice_get_within}
 use Rattle.easl_model.specs.Form.{Form}
 use Rattle.easl_model.specs.declared.form.Method.{Method}
 use Rattle.easl_model.proofs.Items.{zip_from}
-use Rattle.access_paths.specs.Arguments.{HasKnownVariables}
-use Rattle.access_paths.specs.Fitting.{IsTermOf}
-use Rattle.access_paths.specs.Terms.{IsCube}
+use Rattle.access_paths.specs.{HasKnownVariables, IsCube, IsTermOf, before_call, no_family, variables_of}
 use Rattle.access_paths.specs.Trees.{Tree}
 use Rattle.access_paths.specs.declared.term.Cube.{Cube}
 use Rattle.access_paths.specs.declared.term.Family.{Family}
@@ -19,10 +17,10 @@ use Rattle.access_paths.specs.declared.term.Term.{Term}
 use Rattle.access_paths.proofs.Members.{in_flat_map}
 use Rattle.access_paths.proofs.Substituted.{all_members}
 use Rattle.alias_cases.specs.declared.case.Cases.{Cases}
-use Rattle.case_model.specs.Disjuncts.{AreDisjuncts, FallsShort}
-use Rattle.case_model.specs.TermLists.{AreTermsOf, AreTyped, HasTerms, HaveClasses, IsTermList, question_variables, terms_asked, terms_of_clauses, terms_of_cube, terms_of_tree}
+use Rattle.case_model.specs.{AreDisjuncts, AreTermsOf, AreTyped, FallsShort, HasTerms, HaveClasses, IsTermList, question_variables, terms_asked}
+use Rattle.case_model.specs.{terms_of_clauses, terms_of_cube, terms_of_tree}
 use Rattle.case_model.proofs.Terms.{asked_are_there}
-use Rattle.cube_cover.specs.Chosen.{AreCases, DisjunctsFallShort, configurations_at}
+use Rattle.cube_cover.specs.{AreCases, DisjunctsFallShort, configurations_at}
 use Rattle.cube_cover.specs.declared.fault.CoverFault.{CoverFault}
 use Rattle.cube_cover.specs.declared.fault.CoverFault.TheVariants as cover
 use Rattle.derivation.specs.Faults.{of_cover}
@@ -32,9 +30,8 @@ use Rattle.question_model.specs.declared.answer.Answer.{Answer}
 use Rattle.question_model.proofs.AskedTerms.{clause_asks_terms, update_asks_terms}
 use Rattle.weakest_pre.specs.{HasClause, IsClauseAt}
 use Rattle.weakest_pre.specs.Running.{most}
-use Rattle.easl_model.specs.Conditions.{Condition}
+use Rattle.easl_model.specs.{Condition}
 use Rattle.easl_model.specs.declared.form.Test.{Test}
-use Rattle.access_paths.specs.Variables.{before_call, no_family, variables_of}
 use Rattle.derivation.proofs.Scopes.{tree_typed, typed_before}
 use Rattle.derivation.specs.declared.reply.AskFault.TheVariants.{Path, Memory}
 use Rattle.derivation.specs.declared.reply.AskFault.TheVariants as fault

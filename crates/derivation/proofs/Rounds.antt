@@ -6,7 +6,7 @@ use Rattle.std.proofs.lemmas.Option.{get_or_from_slice_get, slice_get-get_or, sl
 use Rattle.easl_model.specs.Form.{Form}
 use Rattle.easl_model.specs.declared.form.Method.{Method}
 use Rattle.access_paths.specs.declared.term.Family.{Family}
-use Rattle.method_abstraction.specs.Asking.{clause_questions, questions, update_questions, updates_by, updates_from}
+use Rattle.method_abstraction.specs.{clause_questions, questions, update_questions, updates_by, updates_from}
 use Rattle.method_abstraction.specs.declared.entry.ClauseFacts.{ClauseFacts}
 use Rattle.method_abstraction.specs.declared.entry.Disjunct.{Disjunct}
 use Rattle.method_abstraction.specs.declared.entry.Question.{Question}

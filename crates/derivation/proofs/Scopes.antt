@@ -3,18 +3,17 @@ use Rattle.std.proofs.Common.{◌≡◌, ℕ, zero, suc, ◌%◌, ◌/◌, Bool,
 use Rattle.std.specs.Prelude.{◌==◌, slice_get}
 use Rattle.std.specs.List.{AllZip}
 use Rattle.std.proofs.lemmas.List.Elements.{Contains-append_cases}
-use Rattle.easl_model.specs.Checked.{IsChecked}
+use Rattle.easl_model.specs.{IsChecked}
 use Rattle.easl_model.specs.Form.{Form}
 use Rattle.easl_model.specs.declared.form.Method.{Method}
-use Rattle.access_paths.specs.Fitting.{IsTermOf}
-use Rattle.access_paths.specs.Trees.{Tree, Leaf, Ask}
-use Rattle.access_paths.specs.Variables.{before_call, variables_of}
+use Rattle.access_paths.specs.{Ask, IsTermOf, Leaf, before_call, variables_of}
+use Rattle.access_paths.specs.Trees.{Tree}
 use Rattle.access_paths.specs.declared.term.Family.{Family}
 use Rattle.access_paths.specs.declared.term.Term.{Term}
 use Rattle.access_paths.proofs.Members.{head_member, tail_member, which_member}
-use Rattle.case_model.specs.TermLists.{AreTermsOf, AreTyped, HaveClasses, question_variables, terms_asked, terms_of_clauses, terms_of_tree}
+use Rattle.case_model.specs.{AreTermsOf, AreTyped, HaveClasses, question_variables, terms_asked, terms_of_clauses, terms_of_tree}
 use Rattle.case_model.proofs.Clauses.{clauses_have_classes}
-use Rattle.question_model.specs.Asked.{AsksTerms}
+use Rattle.question_model.specs.{AsksTerms}
 
 -- the terms that a tree asks have classes
 pub tree_typed : (form : Form) (most : Option ℕ) (variables : List (Option ℕ)) (tree : Tree) → AsksTerms form most variables tree

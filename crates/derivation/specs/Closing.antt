@@ -2,13 +2,13 @@
 -- The rounds are after Ramalingam and others (PLDI 2002); the order and the limit are own.
 use Rattle.std.specs.Prelude.{◌≡◌, ◌⊎◌, ℕ, suc, ◌<◌, ◌≤◌, List, [], ◌∷◌, ◌++◌, Contains, Some, Ok, Err, Result, length, slice_get}
 use Rattle.std.specs.List.{AllZip}
-use Rattle.easl_model.specs.Conditions.{condition_of}
+use Rattle.easl_model.specs.{condition_of}
 use Rattle.easl_model.specs.Form.{Form}
 use Rattle.easl_model.specs.declared.form.Method.{Method}
 use Rattle.easl_model.specs.declared.form.Test.{Test}
 use Rattle.access_paths.specs.declared.term.Family.{Family}
 use Rattle.weakest_pre.specs.{IsClauseAt}
-use Rattle.method_abstraction.specs.Asking.{clause_questions, questions, update_questions}
+use Rattle.method_abstraction.specs.{clause_questions, questions, update_questions}
 use Rattle.method_abstraction.specs.declared.entry.Abstraction.{Abstraction}
 use Rattle.method_abstraction.specs.declared.entry.ClauseFacts.{ClauseFacts}
 use Rattle.method_abstraction.specs.declared.entry.Disjunct.{Disjunct}

@@ -1,13 +1,12 @@
 -- Laws on replies: their disjuncts are exact.
 use Rattle.std.specs.Prelude.{◌≡◌, ℕ, List, Some, Ok, slice_get}
 use Rattle.std.specs.List.{AllZip}
-use Rattle.easl_model.specs.Checked.{IsChecked}
-use Rattle.easl_model.specs.Conditions.{Condition}
+use Rattle.easl_model.specs.{Condition, IsChecked}
 use Rattle.easl_model.specs.Form.{Form}
 use Rattle.easl_model.specs.declared.form.Method.{Method}
-use Rattle.access_paths.specs.Fitting.{Fits}
+use Rattle.access_paths.specs.{Fits}
 use Rattle.access_paths.specs.declared.term.Family.{Family}
-use Rattle.method_abstraction.specs.Exact.{IsExactClause, IsExactUpdate}
+use Rattle.method_abstraction.specs.{IsExactClause, IsExactUpdate}
 use Rattle.method_abstraction.specs.declared.entry.Disjunct.{Disjunct}
 use Rattle.method_abstraction.specs.declared.entry.Disjunct.TheVariants as disjunct
 use Rattle.derivation.specs.Replies.{ClauseReplies, UpdateReplies}

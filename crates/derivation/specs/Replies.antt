@@ -2,19 +2,18 @@
 use Rattle.std.specs.Prelude.{◌≡◌, ◌≢◌, ◌⊎◌, ℕ, ◌≤◌, Bool, true, List, [], Option, Some, None, Result, Ok, Err, if◌then◌else◌, length, map, unwrap_or}
 use Rattle.std.specs.List.{AllZip}
 use Rattle.std.specs.Option.{is_some}
-use Rattle.easl_model.specs.Conditions.{Condition}
+use Rattle.easl_model.specs.{Condition}
 use Rattle.easl_model.specs.Form.{Form}
 use Rattle.easl_model.specs.declared.form.Method.{Method}
-use Rattle.access_paths.specs.Families.{IsFamilyOf}
+use Rattle.access_paths.specs.{IsFamilyOf}
 use Rattle.access_paths.specs.Trees.{Tree}
 use Rattle.access_paths.specs.declared.term.Cube.{Cube}
 use Rattle.access_paths.specs.declared.term.Family.{Family}
 use Rattle.access_paths.specs.declared.term.Term.{Term}
-use Rattle.case_model.specs.Care.{care_list}
-use Rattle.case_model.specs.Configurations.{AreConfigurations, AreMoreThan}
-use Rattle.case_model.specs.Disjuncts.{AreDisjuncts, FallsShort}
-use Rattle.case_model.specs.TermLists.{AreTermsOf, HasLongTerm, HaveClasses, question_variables, terms_asked, terms_of_clauses}
-use Rattle.question_model.specs.{IsLong, IsTree, fails, update}
+use Rattle.case_model.specs.{AreConfigurations, AreDisjuncts, AreMoreThan, AreTermsOf, FallsShort, HasLongTerm, HaveClasses, care_list, question_variables}
+use Rattle.case_model.specs.{terms_asked, terms_of_clauses}
+use Rattle.question_model.specs.{IsTree, fails, update}
+use Rattle.question_model.specs.Split.{IsLong}
 use Rattle.question_model.specs.Stage.{Stage}
 use Rattle.question_model.specs.declared.answer.Answer.{Answer}
 use Rattle.weakest_pre.specs.Running.{most}

@@ -3,11 +3,10 @@ use Rattle.std.specs.Prelude.{◌≡◌, ◌⊎◌, ℕ, ◌<◌, ◌≤◌, ◌
 use Rattle.std.specs.List.{AllZip}
 use Rattle.easl_model.specs.Form.{Form}
 use Rattle.easl_model.specs.declared.form.Method.{Method}
-use Rattle.access_paths.specs.Fitting.{Fits}
-use Rattle.access_paths.specs.Variables.{AreResults}
+use Rattle.access_paths.specs.{AreResults, Fits}
 use Rattle.access_paths.specs.declared.term.Family.{Family}
 use Rattle.weakest_pre.specs.{HasClause}
-use Rattle.method_abstraction.specs.Asking.{questions}
+use Rattle.method_abstraction.specs.{questions}
 use Rattle.method_abstraction.specs.declared.entry.ClauseFacts.{ClauseFacts}
 use Rattle.method_abstraction.specs.declared.entry.Disjunct.{Disjunct}
 use Rattle.method_abstraction.specs.declared.entry.Question.{Question}

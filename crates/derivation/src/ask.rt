@@ -1,12 +1,10 @@
 //! One question: its tree, term list, configurations, care list and disjuncts.
 ghost use Rattle.std.specs.Prelude.{◌≡◌, ◌<◌, Err, MatchResult, Some, length, slice_get};
 ghost use Rattle.std.specs.Option.{option_copied};
-ghost use Rattle.access_paths.specs.Fitting.{Fits};
-ghost use Rattle.access_paths.specs.Trees.{tree_of};
-ghost use Rattle.access_paths.specs.Variables.{AreResults};
-ghost use Rattle.case_model.specs.TermLists.{AreTyped, question_variables, terms_of_tree};
+ghost use Rattle.access_paths.specs.{AreResults, Fits, tree_of};
+ghost use Rattle.case_model.specs.{AreTyped, question_variables, terms_of_tree};
 ghost use Rattle.derivation.specs.Replies.{AreItsCases, ClauseReplies, ComesTo, UpdateReplies};
-ghost use Rattle.easl_model.specs.Conditions.{condition_of};
+ghost use Rattle.easl_model.specs.{condition_of};
 ghost use Rattle.easl_model.specs.declared.form.Method.{Method};
 ghost use Rattle.easl_model.specs.declared.form.Test.{Test};
 ghost use Rattle.weakest_pre.specs.{HasClause, IsClauseAt};

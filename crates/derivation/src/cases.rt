@@ -1,8 +1,8 @@
 //! The configurations that count.
 ghost use Rattle.std.specs.Prelude.{◌≡◌, ◌<◌, ◌≤◌, All, Some, length, slice_get, IfOk, IfSome};
 ghost use Rattle.std.specs.Option.{option_copied};
-ghost use Rattle.case_model.specs.TermLists.{HasTerms, terms_of_clauses};
-ghost use Rattle.cube_cover.specs.Chosen.{AreCases, configurations_at};
+ghost use Rattle.case_model.specs.{HasTerms, terms_of_clauses};
+ghost use Rattle.cube_cover.specs.{AreCases, configurations_at};
 ghost use Rattle.derivation.specs.Replies as told;
 ghost use Rattle.easl_model.specs.declared.form.Method.{Method};
 

@@ -2,8 +2,7 @@
 ghost use Rattle.std.specs.Prelude.{◌≡◌, ◌++◌, All, IfOk, OnOk, map, unwrap_or, slice_get, if◌then◌else◌};
 ghost use Rattle.std.specs.List.{AllZip};
 ghost use Rattle.std.specs.Option.{option_copied, option_map_or};
-ghost use Rattle.access_paths.specs.Arguments.{HasKnownVariables};
-ghost use Rattle.access_paths.specs.Terms.{IsCube};
+ghost use Rattle.access_paths.specs.{HasKnownVariables, IsCube};
 ghost use Rattle.derivation.specs.Replies.{IsPredicateOf};
 ghost use Rattle.derivation.specs.Replies as told;
 

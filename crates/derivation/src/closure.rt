@@ -1,8 +1,8 @@
 //! The derivation: all questions in the order of asking.
 ghost use Rattle.std.specs.Prelude.{◌≡◌, ◌≢◌, ◌⊎◌, ℕ, ◌+◌, ◌<◌, ◌≤◌, ◌++◌, All, IfErr, IfOk, IsErrAnd, List as Seq, MatchResult, OnOk, Some, length, slice_get};
-ghost use Rattle.access_paths.specs.Fitting.{Fits};
+ghost use Rattle.access_paths.specs.{Fits};
 ghost use Rattle.method_abstraction.specs.Asking as told;
-ghost use Rattle.method_abstraction.specs.Exact.{HasExactEntries};
+ghost use Rattle.method_abstraction.specs.{HasExactEntries};
 ghost use Rattle.derivation.specs.Closing.{Closes, Stops};
 ghost use Rattle.derivation.specs.Rounds.{AreNext, IsQuestion, IsSoFar, asked_to, clause_entry, update_entry};
 ghost use Rattle.access_paths.specs.declared.term.Family as family;

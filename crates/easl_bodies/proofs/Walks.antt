@@ -4,7 +4,7 @@ use Rattle.std.specs.List.{position_from, range_with_len}
 use Rattle.std.specs.Prelude.{Option, Some, None, count_by, slice_get}
 use Rattle.std.proofs.lemmas.List.{drop_more, map-append, take_more}
 use Rattle.std.proofs.lemmas.List.Recursion.{is_count_by}
-use Rattle.easl_model.specs.Names.{fields_in}
+use Rattle.easl_model.specs.{Way, faults_of_arguments, faults_of_taken, fields_in, first_with, from_this, owner_of, way_by, way_of}
 use Rattle.easl_model.specs.declared.tree.Arg.{Arg}
 use Rattle.easl_model.specs.declared.tree.Member.{Member}
 use Rattle.easl_model.specs.declared.tree.Member.TheVariants.{Field, Constructor, Method}
@@ -12,11 +12,9 @@ use Rattle.easl_model.specs.declared.tree.Param.{Param}
 use Rattle.easl_model.specs.declared.tree.Path.{Path}
 use Rattle.easl_model.specs.declared.tree.Spec.{Spec}
 use Rattle.easl_model.specs.declared.tree.Word.{Word}
-use Rattle.easl_model.specs.BodyFaults.{faults_of_arguments, faults_of_taken}
-use Rattle.easl_model.specs.Faults.{comes_before, first_with}
+use Rattle.easl_model.specs.Faults.{comes_before}
 use Rattle.easl_model.specs.declared.fault.Fault.{Fault}
 use Rattle.easl_model.proofs.Finding.{both}
-use Rattle.easl_model.specs.Paths.{Way, from_this, owner_of, way_by, way_of}
 use Rattle.easl_model.specs.declared.scope.Context.{Context}
 use Rattle.easl_bodies.specs.Shape.{is_field}
 
@@ -24,7 +22,8 @@ pub rest_is : {A : Type 0} (xs : List A) (k : ℕ) (x : A) → k < length xs →
 rest_is xs k x within is = drop_more xs k x within ∙ ap (λ y. y ∷ drop (k + 1) xs) (sym is)
 
 -- one more item is mapped
-pub map_more : {A B : Type 0} (f : A → B) (xs : List A) (k : ℕ) (x : A) (ys more : List B) (y : B) → k < length xs → x ≡ get_or xs k x → y ≡ f x → more ≡ ys ++ y ∷ []
+pub map_more : {A B : Type 0} (f : A → B) (xs : List A) (k : ℕ) (x : A) (ys more : List B) (y : B) → k < length xs → x ≡ get_or xs k x → y ≡ f x
+    → more ≡ ys ++ y ∷ []
     → ys ≡ map f (take k xs) → more ≡ map f (take (k + 1) xs)
 map_more f xs k x ys more y within at is grown all =
     grown ∙ ap (λ zs. zs ++ y ∷ []) all
@@ -33,14 +32,19 @@ map_more f xs k x ys more y within at is grown all =
     ∙ ap (map f) (ap (λ z. take k xs ++ z ∷ []) at ∙ sym (take_more xs k x within))
 
 -- a place that is looked for from the front of a list
-pub found_here : {A : Type 0} (test : A → Bool) (xs : List A) (k : ℕ) (x : A) (o : Option ℕ) → k < length xs → x ≡ get_or xs k x → test (get_or xs k x) ≡ true → position_from test k (drop k xs) ≡ o → Some k ≡ o
+pub found_here : {A : Type 0} (test : A → Bool) (xs : List A) (k : ℕ) (x : A) (o : Option ℕ) → k < length xs → x ≡ get_or xs k x
+    → test (get_or xs k x) ≡ true → position_from test k (drop k xs) ≡ o → Some k ≡ o
 found_here test xs k x o within is passes left = let pass : test x ≡ true = ap test is ∙ passes in sym (rw (rest_is xs k x within is, pass) refl) ∙ left
 
-pub passed_over : {A : Type 0} (test : A → Bool) (xs : List A) (k : ℕ) (x : A) (o : Option ℕ) → k < length xs → x ≡ get_or xs k x → test (get_or xs k x) ≡ false → position_from test k (drop k xs) ≡ o → position_from test (k + 1) (drop (k + 1) xs) ≡ o
+pub passed_over : {A : Type 0} (test : A → Bool) (xs : List A) (k : ℕ) (x : A) (o : Option ℕ) → k < length xs → x ≡ get_or xs k x
+    → test (get_or xs k x) ≡ false → position_from test k (drop k xs) ≡ o → position_from test (k + 1) (drop (k + 1) xs) ≡ o
 passed_over test xs k x o within is fails left = let fail : test x ≡ false = ap test is ∙ fails in sym (rw (rest_is xs k x within is, fail) refl) ∙ left
 
 -- one more argument
-pub argument_more : (spec : Spec) (c : Context) (params : List Param) (xs : List Arg) (k : ℕ) (x : Arg) (o : Option Param) (found next start : Option Fault) → k < length xs → x ≡ get_or xs k x → o ≡ slice_get params k → next ≡ first_with comes_before found (faults_of_taken spec c o x) → first_with comes_before found (faults_of_arguments spec c params k (drop k xs)) ≡ start → first_with comes_before next (faults_of_arguments spec c params (k + 1) (drop (k + 1) xs)) ≡ start
+pub argument_more : (spec : Spec) (c : Context) (params : List Param) (xs : List Arg) (k : ℕ) (x : Arg) (o : Option Param) (found next start : Option Fault)
+    → k < length xs → x ≡ get_or xs k x → o ≡ slice_get params k → next ≡ first_with comes_before found (faults_of_taken spec c o x)
+    → first_with comes_before found (faults_of_arguments spec c params k (drop k xs)) ≡ start
+    → first_with comes_before next (faults_of_arguments spec c params (k + 1) (drop (k + 1) xs)) ≡ start
 argument_more spec c params xs k x o found next start within is param stepped left =
     let rest = drop (k + 1) xs in
     let number : k + 1 ≡ suc k = omega arith in
@@ -74,6 +78,7 @@ short [] few = refl
 short (w ∷ []) few = refl
 short (w ∷ v ∷ fields) few = absurd (omega (arith, few))
 
-pub short_way : (c : Context) (path : Path) (fields : List Word) → path.head ≡ None → fields ≡ path.fields → length fields < 2 → None ≡ from_this (owner_of (way_of c path))
+pub short_way : (c : Context) (path : Path) (fields : List Word) → path.head ≡ None → fields ≡ path.fields → length fields < 2
+    → None ≡ from_this (owner_of (way_of c path))
 short_way c path fields none are few =
     sym (ap (λ (h : Option Word). from_this (owner_of (way_by c h path.fields))) none ∙ short path.fields (omega (arith, few, ap length are)))

@@ -1,12 +1,10 @@
 //! The faults of bodies.
 ghost use Rattle.std.specs.Prelude.{◌≡◌, IfOk, OnOk, map};
 ghost use Rattle.std.specs.Option.{option_copied, option_map};
-ghost use Rattle.easl_model.specs.Clauses.{clause_of, clauses};
+ghost use Rattle.easl_model.specs.{block_of, clause_of, clauses, first_with, start_of, written_of};
 ghost use Rattle.easl_model.specs.BodyFaults as told;
-ghost use Rattle.easl_model.specs.Contexts.{start_of};
-ghost use Rattle.easl_model.specs.Faults.{comes_before, first_with};
+ghost use Rattle.easl_model.specs.Faults.{comes_before};
 ghost use Rattle.easl_model.specs.Paths as paths_told;
-ghost use Rattle.easl_model.specs.Steps.{block_of, written_of};
 
 use crate::context::{assign, copy_of, declare, has_unset, is_declared, join, start_of};
 use crate::fault::{note, note_if};

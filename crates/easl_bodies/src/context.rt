@@ -1,7 +1,7 @@
 //! What stands before a statement of a body.
 ghost use Rattle.std.specs.Prelude.{◌≡◌, ◌==◌, ◌||◌, IfOk, OnOk, map, not};
 ghost use Rattle.std.specs.List.{filter, list_any, position_from};
-ghost use Rattle.easl_model.specs.Names.{is_same};
+ghost use Rattle.easl_model.specs.{is_same};
 ghost use Rattle.easl_model.specs.Contexts as told;
 
 use crate::names::{class_named, class_of, field_count, members_of};

@@ -1,6 +1,7 @@
 //! Faults, and the first of some.
 ghost use Rattle.std.specs.Prelude.{◌≡◌, Some};
-ghost use Rattle.easl_model.specs.Faults.{broken_if, comes_before, earlier, first_with, number_of, stands_before};
+ghost use Rattle.easl_model.specs.{broken_if, earlier, first_with, number_of, stands_before};
+ghost use Rattle.easl_model.specs.Faults.{comes_before};
 ghost use Rattle.easl_model.specs.Faults as told;
 
 use easl_model::{Fault, Place, Rule};

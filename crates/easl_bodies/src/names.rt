@@ -2,7 +2,7 @@
 ghost use Rattle.std.specs.Prelude.{◌≡◌, length};
 ghost use Rattle.std.specs.Option.{option_copied};
 ghost use Rattle.std.specs.List.{position_from};
-ghost use Rattle.easl_model.specs.Names.{constructor_in, members_of as members_in, fields_in};
+ghost use Rattle.easl_model.specs.{constructor_in, fields_in, members_of as members_in};
 ghost use Rattle.easl_bodies.specs.Shape as shape;
 ghost use Rattle.easl_model.specs.Names as told;
 ghost use Rattle.easl_model.specs.BodyFaults as rules_told;

@@ -1,9 +1,9 @@
 //! The faults of paths, comparisons and values.
 ghost use Rattle.std.specs.Prelude.{◌≡◌, map};
 ghost use Rattle.std.specs.Option.{option_copied};
-ghost use Rattle.easl_model.specs.Clauses.{clause_of, clauses};
+ghost use Rattle.easl_model.specs.{clause_of, clauses, first_with};
 ghost use Rattle.easl_model.specs.BodyFaults as told;
-ghost use Rattle.easl_model.specs.Faults.{comes_before, first_with};
+ghost use Rattle.easl_model.specs.Faults.{comes_before};
 
 use crate::context::{has_unset, is_unset};
 use crate::fault::{note, note_if};

@@ -5,21 +5,18 @@ use Rattle.std.specs.List.{AllZip}
 use Rattle.std.specs.Option.{option_map_or}
 use Rattle.std.proofs.lemmas.Bool.{cases_Bool}
 use Rattle.std.proofs.lemmas.Slice.Zip.{AllZip-long}
-use Rattle.easl_model.specs.Checked.{IsChecked}
+use Rattle.easl_model.specs.{Change, ConstructorsNest, EndsSo, IsChecked, IsOf, IsTyped, IsTypedMethod, Local, OfMade, OfStatement, OfStatements, Returns}
+use Rattle.easl_model.specs.{Standing, Statement, Write, standing_of, statements_of}
 use Rattle.easl_model.specs.Form.{Form}
-use Rattle.easl_model.specs.Nests.{ConstructorsNest, OfMade, OfStatement, OfStatements}
-use Rattle.easl_model.specs.Statements.{Statement, Statements, statements_of, Local, Change, Write, If, none, ◌▸◌}
-use Rattle.easl_model.specs.Typed.{IsOf, Standing}
+use Rattle.easl_model.specs.Statements.{Statements, If, none, ◌▸◌}
 use Rattle.easl_model.specs.Typed as typed_told
-use Rattle.easl_model.specs.TypedBodies.{EndsSo, IsTyped, IsTypedMethod, Returns, standing_of}
 use Rattle.easl_model.specs.declared.form.Method.{Method}
 use Rattle.easl_model.specs.declared.form.Source.{Source}
 use Rattle.easl_model.specs.declared.form.Source.TheVariants.{Reach, Make}
 use Rattle.easl_model.proofs.CheckedForms.{checked_nests, checked_typed}
 use Rattle.easl_model.proofs.Items.{all_at, item_at}
-use Rattle.easl_heap.specs.Body.{Making, Moment, Outcome, body, called, made, moment, outcome, returned, run}
-use Rattle.easl_heap.specs.Full.{AreOfClasses, GivesClass, IsGiven, KeepsClasses, taken_by}
-use Rattle.easl_heap.specs.Heap.{Object, IsFull, IsObjectOf}
+use Rattle.easl_heap.specs.{AreOfClasses, GivesClass, IsFull, IsGiven, IsObjectOf, KeepsClasses, Making, Moment, Object, Outcome, body, called, made, moment}
+use Rattle.easl_heap.specs.{outcome, returned, run, taken_by}
 use Rattle.easl_heap.proofs.Called.{body_called, constructor_called, method_called}
 use Rattle.easl_heap.proofs.Classes.{body_keeps}
 use Rattle.easl_heap.proofs.Constructing.{made_keeps, taken_at}

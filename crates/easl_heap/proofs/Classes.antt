@@ -2,16 +2,14 @@
 use Rattle.std.proofs.Common.{ℕ, zero, suc, ◌+◌, List, [], ◌∷◌, ◌++◌, length}
 use Rattle.std.specs.Prelude.{Bool, true, false, Option, Some, None, slice_get, if◌then◌else◌}
 use Rattle.std.specs.Option.{option_map_or}
-use Rattle.easl_model.specs.Form.{Form, constructor_of}
-use Rattle.easl_model.specs.Limits.{body_of}
-use Rattle.easl_model.specs.Statements.{Statement, Statements, statements_of, Local, Change, Write, If, none, ◌▸◌}
+use Rattle.easl_model.specs.{Change, Local, Statement, Write, body_of, constructor_of, statements_of}
+use Rattle.easl_model.specs.Form.{Form}
+use Rattle.easl_model.specs.Statements.{Statements, If, none, ◌▸◌}
 use Rattle.easl_model.specs.declared.form.Method.{Method}
 use Rattle.easl_model.specs.declared.form.Source.{Source}
 use Rattle.easl_model.specs.declared.form.Source.TheVariants.{Reach, Make}
-use Rattle.easl_heap.specs.Body.{Making, Moment, Outcome, body, called, counted, made, moment, returned, run, step, value}
-use Rattle.easl_heap.specs.Clause.{holds}
-use Rattle.easl_heap.specs.Full.{KeepsClasses}
-use Rattle.easl_heap.specs.Heap.{Object, fresh, reached}
+use Rattle.easl_heap.specs.{KeepsClasses, Making, Moment, Object, Outcome, body, called, counted, fresh, holds, made, moment, reached, returned, run, step}
+use Rattle.easl_heap.specs.{value}
 use Rattle.easl_heap.proofs.Whole.{adding_keeps, writing_keeps}
 
 abbrev MakingKeeps : Making → Type 0
@@ -65,7 +63,8 @@ called_keeps form m args heap =
     (keeps m.class args heap 0)
     (λ class n is. returned_keeps make keeps m.value after class n (run_keeps make keeps (statements_of m.body) start class n is))
 
-found_keeps : (form : Form) (o : Option Method) (args : List ℕ) (heap : List Object) (x : Outcome) → KeepsClasses heap x.heap → KeepsClasses heap (option_map_or (λ m. called form m args heap) o x).heap
+found_keeps : (form : Form) (o : Option Method) (args : List ℕ) (heap : List Object) (x : Outcome) → KeepsClasses heap x.heap
+    → KeepsClasses heap (option_map_or (λ m. called form m args heap) o x).heap
 found_keeps form None args heap x keeps = keeps
 found_keeps form (Some m) args heap x keeps = called_keeps form m args heap
 

@@ -8,16 +8,13 @@ use Rattle.std.proofs.lemmas.List.Folds.{list_any_at}
 use Rattle.std.proofs.lemmas.List.FromFn.{get_or-range_with_len, length-range_with_len}
 use Rattle.std.proofs.lemmas.Option.{slice_get_within}
 use Rattle.std.proofs.lemmas.Slice.Zip.{AllZip-long}
-use Rattle.easl_model.specs.Form.{Form, constructor_of, fields_of}
-use Rattle.easl_model.specs.Limits.{body_of}
-use Rattle.easl_model.specs.Nests.{NestsWithin, OfStatements}
-use Rattle.easl_model.specs.Statements.{Statements, statements_of}
-use Rattle.easl_model.specs.Typed.{is_among, taken_by}
-use Rattle.easl_model.specs.TypedBodies.{EndsSo, IsTyped, IsTypedMethod, standing_of}
+use Rattle.easl_model.specs.{EndsSo, IsTyped, IsTypedMethod, NestsWithin, OfStatements, body_of, constructor_of, fields_of, is_among, standing_of}
+use Rattle.easl_model.specs.{statements_of, taken_by}
+use Rattle.easl_model.specs.Form.{Form}
+use Rattle.easl_model.specs.Statements.{Statements}
 use Rattle.easl_model.specs.declared.form.Method.{Method}
 use Rattle.easl_model.proofs.Items.{all_at}
-use Rattle.easl_heap.specs.Body.{Making, Moment, made, moment, run}
-use Rattle.easl_heap.specs.Heap.{Object, fresh}
+use Rattle.easl_heap.specs.{Making, Moment, Object, fresh, made, moment, run}
 use Rattle.easl_heap.proofs.Called.{body_found}
 use Rattle.easl_heap.proofs.Holding.{Holds, IsTaken, Makes, all_set}
 use Rattle.easl_heap.proofs.Running.{run_keeps}

@@ -1,15 +1,14 @@
 -- How many statements are executed.
 use Rattle.std.proofs.Common.{ℕ, zero, suc, ◌+◌, ◌≤◌, length, List, arith}
 use Rattle.std.specs.Prelude.{Bool, true, false, Option, Some, None, if◌then◌else◌}
-use Rattle.easl_model.specs.Form.{Form, constructor_of}
-use Rattle.easl_model.specs.Limits.{body_of, count_of, statement_count, total_count, constructor_count, value_count, count_in_place}
-use Rattle.easl_model.specs.Statements.{Statement, Statements, statements_of, Local, Change, Write, If, none, ◌▸◌}
+use Rattle.easl_model.specs.{Change, Local, Statement, Write, body_of, constructor_count, constructor_of, count_in_place, count_of, statement_count}
+use Rattle.easl_model.specs.{statements_of, total_count, value_count}
+use Rattle.easl_model.specs.Form.{Form}
+use Rattle.easl_model.specs.Statements.{Statements, If, none, ◌▸◌}
 use Rattle.easl_model.specs.declared.form.Method.{Method}
 use Rattle.easl_model.specs.declared.form.Source.{Source}
 use Rattle.easl_model.specs.declared.form.Source.TheVariants.{Reach, Make}
-use Rattle.easl_heap.specs.Clause.{holds}
-use Rattle.easl_heap.specs.Heap.{Object}
-use Rattle.easl_heap.specs.Body.{Moment, Outcome, Making, value, step, run, made, counted, returned, called}
+use Rattle.easl_heap.specs.{Making, Moment, Object, Outcome, called, counted, holds, made, returned, run, step, value}
 
 -- each construction executes some statements, and no more than this says
 pub record Counts (make : Making) (count : ℕ → ℕ) : Type 0 where

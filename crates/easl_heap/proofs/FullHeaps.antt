@@ -5,10 +5,10 @@ use Rattle.std.specs.List.{AllZip}
 use Rattle.std.proofs.lemmas.Bool.Decides.{leb_tells}
 use Rattle.std.proofs.lemmas.Option.{get_or_from_slice_get}
 use Rattle.std.proofs.lemmas.Slice.Zip.{AllZip-long}
-use Rattle.easl_model.specs.Form.{Form, fields_of}
+use Rattle.easl_model.specs.{fields_of}
+use Rattle.easl_model.specs.Form.{Form}
 use Rattle.easl_model.proofs.Items.{all_at, all_from_places, zip_from}
-use Rattle.easl_heap.specs.Full.{FieldsLead}
-use Rattle.easl_heap.specs.Heap.{Object, IsFull, IsFullObject, IsObjectOf, get, object_at}
+use Rattle.easl_heap.specs.{FieldsLead, IsFull, IsFullObject, IsObjectOf, Object, get, object_at}
 use Rattle.easl_heap.proofs.Whole.{AreShaped, IsWhole, Keeps, stays_whole, was_of, whole_field, whole_object}
 use Rattle.easl_heap.proofs.Writes.{got, is_object, object_of}
 

@@ -3,16 +3,14 @@ use Rattle.std.proofs.Common.{◌≡◌, ℕ, zero, suc, ◌<◌, false, List, [
 use Rattle.std.specs.Prelude.{Option, Some, None, slice_get, slice_index}
 use Rattle.std.specs.List.{AllZip}
 use Rattle.std.specs.Option.{option_and_then, option_flatten}
-use Rattle.easl_model.specs.Form.{Form, fields_of}
-use Rattle.easl_model.specs.Nests.{OfMade}
-use Rattle.easl_model.specs.Typed.{Gives, IsOf, IsReadable, IsReady, Standing, Takes, class_at, class_behind, is_among, taken_by}
+use Rattle.easl_model.specs.{Gives, IsOf, IsReady, OfMade, Standing, Takes, class_at, class_behind, fields_of, is_among, taken_by}
+use Rattle.easl_model.specs.Form.{Form}
+use Rattle.easl_model.specs.Typed.{IsReadable}
 use Rattle.easl_model.specs.declared.form.Reach.{Reach}
 use Rattle.easl_model.specs.declared.form.Source.{Source}
 use Rattle.easl_model.specs.declared.form.Source.TheVariants as source
-use Rattle.easl_heap.specs.Body.{Making, argument, moment}
+use Rattle.easl_heap.specs.{FieldsLead, IsObjectOf, Making, Object, argument, get, moment, reached}
 use Rattle.easl_heap.specs.Body as told
-use Rattle.easl_heap.specs.Full.{FieldsLead}
-use Rattle.easl_heap.specs.Heap.{Object, IsObjectOf, get, reached}
 use Rattle.easl_heap.proofs.Whole.{AreShaped, IsWhole, Keeps, keeps_same, whole, whole_field, whole_object}
 
 -- `this` is an object of its class, whole but for its unset fields, and each slot of a class holds a whole object of it

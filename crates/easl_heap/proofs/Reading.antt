@@ -4,8 +4,9 @@ use Rattle.std.specs.Cmp.{first_so, second_so}
 use Rattle.std.specs.Option.{option_map_or}
 use Rattle.std.proofs.lemmas.List.{get_or_past, length-replicate, set_past}
 use Rattle.std.proofs.lemmas.Option.{slice_get_past}
-use Rattle.easl_model.specs.Form.{Form, fields_of}
-use Rattle.easl_heap.specs.Heap.{Object, IsFull, IsObjectOf, fresh, get, object_at, with_field, write}
+use Rattle.easl_model.specs.{fields_of}
+use Rattle.easl_model.specs.Form.{Form}
+use Rattle.easl_heap.specs.{IsFull, IsObjectOf, Object, fresh, get, object_at, with_field, write}
 use Rattle.easl_heap.proofs.FullHeaps.{full_shaped}
 use Rattle.easl_heap.proofs.Writes.{at_cases, get_cases, get_written, got, object_of, write_back, write_cases}
 
@@ -32,13 +33,15 @@ AreWide form heap = (n : ℕ) (o : Object) → object_at heap n ≡ Some o → l
 pub full_wide : (form : Form) (heap : List Object) → IsFull form heap → AreWide form heap
 full_wide form heap full n o at = (full_shaped form heap full n o at).fields
 
-no_field : (form : Form) (heap : List Object) (class n p : ℕ) → AreWide form heap → (is : IsObjectOf heap class n) → slice_get (fields_of form class) p ≡ None → length (object_of heap class n is).0.fields ≤ p
+no_field : (form : Form) (heap : List Object) (class n p : ℕ) → AreWide form heap → (is : IsObjectOf heap class n)
+    → slice_get (fields_of form class) p ≡ None → length (object_of heap class n is).0.fields ≤ p
 no_field form heap class n p wide is none =
     let o = object_of heap class n is in
     omega (arith, wide n o.0 o.1, ap (λ c. length (fields_of form c)) o.2, none_past (fields_of form class) p none)
 
 -- a position that the class does not have
-pub get_no_field : (form : Form) (heap : List Object) (class n p : ℕ) → AreWide form heap → IsObjectOf heap class n → slice_get (fields_of form class) p ≡ None → get heap n p ≡ 0
+pub get_no_field : (form : Form) (heap : List Object) (class n p : ℕ) → AreWide form heap → IsObjectOf heap class n
+    → slice_get (fields_of form class) p ≡ None → get heap n p ≡ 0
 get_no_field form heap class n p wide is none =
     let o = object_of heap class n is in
     got heap n p o.0 o.1 ∙ get_or_past o.0.fields p 0 (no_field form heap class n p wide is none)
@@ -55,7 +58,8 @@ write_past_field (x ∷ heap) (suc zero) p v o at more =
 write_past_field (x ∷ heap) (suc (suc n)) p v o at more = ap (λ rest. x ∷ rest) (write_past_field heap (suc n) p v o at more)
 
 -- a write to a position that the class does not have changes nothing
-pub write_no_field : (form : Form) (heap : List Object) (class n p v : ℕ) → AreWide form heap → IsObjectOf heap class n → slice_get (fields_of form class) p ≡ None → write heap n p v ≡ heap
+pub write_no_field : (form : Form) (heap : List Object) (class n p v : ℕ) → AreWide form heap → IsObjectOf heap class n
+    → slice_get (fields_of form class) p ≡ None → write heap n p v ≡ heap
 write_no_field form heap class n p v wide is none =
     let o = object_of heap class n is in
     write_past_field heap n p v o.0 o.1 (no_field form heap class n p wide is none)
@@ -80,7 +84,8 @@ module _ (heap : List Object) (owner p v n q : ℕ) where
         | inr set ↦ absurd (other (sym set.0) (sym set.1))
       ]
 
-  get_by : (x : Object) → object_at heap owner ≡ Some x → p < length x.fields → (b : Bool) → (owner == n && p == q) ≡ b → get (write heap owner p v) n q ≡ (if b then v else get heap n q)
+  get_by : (x : Object) → object_at heap owner ≡ Some x → p < length x.fields → (b : Bool) → (owner == n && p == q) ≡ b
+      → get (write heap owner p v) n q ≡ (if b then v else get heap n q)
   get_by x at within true e =
       let s = both_same owner n p q e in
       subst (λ m. get (write heap owner p v) m q ≡ v) s.0
@@ -89,7 +94,8 @@ module _ (heap : List Object) (owner p v n q : ℕ) where
       get_other (object_at heap n) refl (λ one same. true≢false (sym (same_both owner n p q one same) ∙ e))
 
   -- a write changes one field of one object
-  pub get_write : (x : Object) → object_at heap owner ≡ Some x → p < length x.fields → get (write heap owner p v) n q ≡ (if owner == n && p == q then v else get heap n q)
+  pub get_write : (x : Object) → object_at heap owner ≡ Some x → p < length x.fields
+      → get (write heap owner p v) n q ≡ (if owner == n && p == q then v else get heap n q)
   get_write x at within = get_by x at within (owner == n && p == q) refl
 
 zeros : (k q : ℕ) → slice_index (replicate k 0) q ≡ 0
@@ -97,7 +103,8 @@ zeros zero q = refl
 zeros (suc k) zero = refl
 zeros (suc k) (suc q) = zeros k q
 
-index_adding : (heap : List Object) (o : Object) (n q : ℕ) → slice_index o.fields q ≡ 0 → option_map_or (λ (y : Object). slice_index y.fields q) (slice_get (heap ++ o ∷ []) n) 0 ≡ option_map_or (λ (y : Object). slice_index y.fields q) (slice_get heap n) 0
+index_adding : (heap : List Object) (o : Object) (n q : ℕ) → slice_index o.fields q ≡ 0
+    → option_map_or (λ (y : Object). slice_index y.fields q) (slice_get (heap ++ o ∷ []) n) 0 ≡ option_map_or (λ (y : Object). slice_index y.fields q) (slice_get heap n) 0
 index_adding [] o zero q none = none
 index_adding [] o (suc n) q none = refl
 index_adding (x ∷ heap) o zero q none = refl

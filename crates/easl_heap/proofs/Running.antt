@@ -7,16 +7,13 @@ use Rattle.std.proofs.lemmas.Bool.{cases_Bool, or_parts}
 use Rattle.std.proofs.lemmas.Map.Views.{any-filter_same}
 use Rattle.std.proofs.lemmas.List.{get_or_append_left, get_or-append-add, get_or-take, length-take-le}
 use Rattle.std.proofs.lemmas.Option.{slice_get_within}
-use Rattle.easl_model.specs.Form.{Form, fields_of}
-use Rattle.easl_model.specs.Nests.{OfStatement, OfStatements}
-use Rattle.easl_model.specs.Statements.{Statement, Statements, Local, Change, Write, If, none, ◌▸◌}
-use Rattle.easl_model.specs.Typed.{Standing, is_among, slot_class}
-use Rattle.easl_model.specs.TypedBodies.{AreTyped, IsTypedStatement, behind_both, left_by}
+use Rattle.easl_model.specs.{AreTyped, Change, IsTypedStatement, Local, OfStatement, OfStatements, Standing, Statement, Write, behind_both, fields_of}
+use Rattle.easl_model.specs.{is_among, left_by, slot_class}
+use Rattle.easl_model.specs.Form.{Form}
+use Rattle.easl_model.specs.Statements.{Statements, If, none, ◌▸◌}
 use Rattle.easl_model.proofs.None.{not_not}
-use Rattle.easl_heap.specs.Body.{Making, Moment, counted, moment, run, step}
+use Rattle.easl_heap.specs.{IsObjectOf, Making, Moment, Object, counted, get, holds, moment, reached, run, step, write}
 use Rattle.easl_heap.specs.Body as told
-use Rattle.easl_heap.specs.Clause.{holds}
-use Rattle.easl_heap.specs.Heap.{Object, IsObjectOf, get, reached, write}
 use Rattle.easl_heap.proofs.Holding.{Holds, Makes, read_object, value_keeps}
 use Rattle.easl_heap.proofs.Whole.{IsWhole, Keeps, keeps_both, keeps_same, stays_whole, writing, written}
 use Rattle.easl_heap.proofs.Writes.{index_set_cases, one_class, slice_before, slice_cases}

@@ -4,9 +4,9 @@ use Rattle.std.specs.Prelude.{Some, slice_get}
 use Rattle.std.proofs.lemmas.Bool.Decides.{leb_tells}
 use Rattle.std.proofs.lemmas.List.{length-replicate}
 use Rattle.std.proofs.lemmas.Option.{slice_get_within}
-use Rattle.easl_model.specs.Form.{Form, fields_of}
-use Rattle.easl_heap.specs.Full.{FieldsLead, KeepsClasses}
-use Rattle.easl_heap.specs.Heap.{Object, IsObjectOf, object_at, get, write, fresh, with_field}
+use Rattle.easl_model.specs.{fields_of}
+use Rattle.easl_model.specs.Form.{Form}
+use Rattle.easl_heap.specs.{FieldsLead, IsObjectOf, KeepsClasses, Object, fresh, get, object_at, with_field, write}
 use Rattle.easl_heap.proofs.Writes.{at_before, at_cases, get_cases, get_written, is_object, number_within, object_of, object_there, one_class, same_get, write_back, write_cases, write_length}
 
 -- an object of the class, and whatever its fields lead to is of the right class

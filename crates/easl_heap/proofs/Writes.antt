@@ -4,7 +4,7 @@ use Rattle.std.specs.Prelude.{Option, Some, None, slice_get, slice_index, slice_
 use Rattle.std.specs.Option.{option_map, option_map_or}
 use Rattle.std.proofs.lemmas.Option.{slice_get_within}
 use Rattle.easl_model.proofs.Items.{item_at}
-use Rattle.easl_heap.specs.Heap.{Object, IsObjectOf, object_at, get, write, with_field}
+use Rattle.easl_heap.specs.{IsObjectOf, Object, get, object_at, with_field, write}
 
 pub object_of : (heap : List Object) (class n : ℕ) → IsObjectOf heap class n → (o : Object) × (object_at heap n ≡ Some o) × (o.class ≡ class)
 object_of heap class n is = found (object_at heap n) is

@@ -1,9 +1,9 @@
 -- Bodies of methods.
 use Rattle.std.specs.Prelude.{◌≡◌, ℕ, zero, suc, ◌+◌, List, [], ◌∷◌, ◌++◌, map, length, Option, Some, None, IfSome, slice_get, slice_set, take, if◌then◌else◌}
 use Rattle.std.specs.Option.{option_map_or}
-use Rattle.easl_model.specs.Form.{Form, constructor_of}
-use Rattle.easl_model.specs.Statements.{Statement, Statements, statements_of, Local, Change, Write, If, none, ◌▸◌}
-use Rattle.easl_model.specs.Limits.{body_of}
+use Rattle.easl_model.specs.{Change, Local, Statement, Write, body_of, constructor_of, statements_of}
+use Rattle.easl_model.specs.Form.{Form}
+use Rattle.easl_model.specs.Statements.{Statements, If, none, ◌▸◌}
 use Rattle.easl_model.specs.declared.form.Method.{Method}
 use Rattle.easl_model.specs.declared.form.Reach as path
 use Rattle.easl_model.specs.declared.form.Source.{Source}

@@ -3,7 +3,8 @@ use Rattle.std.specs.Prelude.{◌==◌, ℕ, Bool, true, false, not, ◌&&◌, �
 use Rattle.std.specs.Option.{option_map_or}
 use Rattle.std.specs.List.{position_from}
 use Rattle.easl_model.specs.Form.{Form}
-use Rattle.easl_model.specs.Conditions.{Condition, Conditions, condition_of, Same, Differ, All, Any, none, ◌▸◌}
+use Rattle.easl_model.specs.{Condition, condition_of}
+use Rattle.easl_model.specs.Conditions.{Conditions, Same, Differ, All, Any, none, ◌▸◌}
 use Rattle.easl_model.specs.declared.form.Method.{Method}
 use Rattle.easl_heap.specs.Heap.{Object, reached}
 

@@ -1,6 +1,6 @@
 -- What the code has come to, in the words of the bodies' meaning.
 use Rattle.std.specs.Prelude.{Vec, vec_len, vec_capacity, ◌^◌, ◌<◌, ◌≡◌, ℕ, ◌+◌, ◌≤◌, List, length}
-use Rattle.easl_model.specs.Limits.{ActsHaveFewArguments, written_in}
+use Rattle.easl_model.specs.{ActsHaveFewArguments, written_in}
 use Rattle.easl_model.specs.Statements.{Statements}
 use Rattle.easl_heap.specs.Body.{Moment, Outcome}
 

@@ -1,7 +1,8 @@
 -- What calls are given and what they give on a full heap.
 use Rattle.std.specs.Prelude.{◌≡◌, ℕ, List, [], ◌∷◌, Option, Some, None, IfSome, slice_get, if◌then◌else◌}
 use Rattle.std.specs.List.{AllZip}
-use Rattle.easl_model.specs.Form.{Form, fields_of}
+use Rattle.easl_model.specs.{fields_of}
+use Rattle.easl_model.specs.Form.{Form}
 use Rattle.easl_model.specs.declared.form.Method.{Method}
 use Rattle.easl_heap.specs.Heap.{Object, IsObjectOf}
 

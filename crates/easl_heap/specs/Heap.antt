@@ -2,7 +2,8 @@
 use Rattle.std.specs.Prelude.{◌≡◌, ℕ, zero, suc, ◌<◌, List, [], ◌∷◌, All, length, replicate, Option, Some, None, slice_get, slice_index, slice_set}
 use Rattle.std.specs.Option.{option_map, option_map_or}
 use Rattle.std.specs.List.{fold, AllZip}
-use Rattle.easl_model.specs.Form.{Form, fields_of}
+use Rattle.easl_model.specs.{fields_of}
+use Rattle.easl_model.specs.Form.{Form}
 use Rattle.easl_model.specs.declared.form.Reach.{Reach}
 
 -- its class, and for each field position the number of an object

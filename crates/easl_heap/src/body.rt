@@ -1,14 +1,10 @@
 //! Bodies, executed statement by statement. A constructor that is called is executed in place on its fresh object.
 ghost use Rattle.std.specs.Prelude.{◌≡◌, ◌+◌, ◌-◌, ◌^◌, ◌<◌, ◌≤◌, [], ◌∷◌, ◌++◌, length, map, slice_set, vec_len, vec_capacity, IfSome};
-ghost use Rattle.easl_model.specs.Checked.{IsChecked};
-ghost use Rattle.easl_model.specs.Form.{ActInRange, ActsInRange, SourceInRange};
-ghost use Rattle.easl_model.specs.Limits.{ActHasFewArguments, HasFewArguments, written_by};
-ghost use Rattle.easl_model.specs.Statements.{statement_of, statements_of};
-ghost use Rattle.easl_heap.specs.Heap.{fresh};
+ghost use Rattle.easl_model.specs.{ActHasFewArguments, ActInRange, ActsInRange, HasFewArguments, IsChecked, SourceInRange, statement_of, statements_of};
+ghost use Rattle.easl_model.specs.{written_by};
+ghost use Rattle.easl_heap.specs.{Comes, Fits, Gives, Grows, HasArguments, HasRoom, fresh, made, moment, outcome};
 ghost use Rattle.easl_heap.specs.Heap as heap;
-ghost use Rattle.easl_heap.specs.Body.{made, moment, outcome, HasArguments};
 ghost use Rattle.easl_heap.specs.Body as told;
-ghost use Rattle.easl_heap.specs.Executing.{Comes, Gives, Fits, Grows, HasRoom};
 ghost use Rattle.arrayvec.specs.ArrayVec.{array_vec_len};
 
 use crate::clause::holds;

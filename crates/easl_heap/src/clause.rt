@@ -1,6 +1,6 @@
 //! Requires clauses: conditions on the objects that paths lead to.
 ghost use Rattle.std.specs.Prelude.{◌≡◌, ◌<◌, ◌^◌, map, length};
-ghost use Rattle.easl_model.specs.Conditions.{conditions, condition_of};
+ghost use Rattle.easl_model.specs.{condition_of, conditions};
 ghost use Rattle.easl_heap.specs.Clause as spec;
 
 use crate::object::Object;

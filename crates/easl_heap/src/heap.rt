@@ -30,10 +30,8 @@ const MOST_OBJECTS: usize = 1025;
 
 impl Heap {
     ghost use Rattle.std.specs.Prelude.{◌≡◌, ◌+◌, ◌^◌, ◌<◌, ◌≤◌, [], length, slice_get, IfOk, OnOk, OnErr};
-    ghost use Rattle.easl_heap.specs.Heap.{get, IsFull};
-    ghost use Rattle.easl_heap.specs.Full.{AreOfClasses, GivesClass, KeepsClasses};
+    ghost use Rattle.easl_heap.specs.{AreOfClasses, GivesClass, HasArguments, IsFull, KeepsClasses, body, get, outcome};
     ghost use Rattle.easl_heap.specs.Clause as told;
-    ghost use Rattle.easl_heap.specs.Body.{outcome, body, HasArguments};
 
     /// An empty heap. It takes no memory, and keeps the allocator for later.
     pub fn new(alloc: Global) -> Heap

@@ -19,7 +19,7 @@ impl Model for Object {
 
 impl Object {
     ghost use Rattle.std.specs.Prelude.{◌≡◌, ◌≤◌, replicate, slice_index, slice_set};
-    ghost use Rattle.easl_heap.specs.Heap.{with_field};
+    ghost use Rattle.easl_heap.specs.{with_field};
 
     /// A fresh object, with no field assigned.
     pub fn fresh(class: u32, field_count: u32) -> Object

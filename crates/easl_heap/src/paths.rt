@@ -1,6 +1,6 @@
 //! What paths lead to. Reads are total: a slot or a position that is not there gives 0.
 ghost use Rattle.std.specs.Prelude.{◌≡◌, slice_index};
-ghost use Rattle.easl_heap.specs.Heap.{get};
+ghost use Rattle.easl_heap.specs.{get};
 ghost use Rattle.easl_heap.specs.Heap as heap;
 
 use crate::object::Object;

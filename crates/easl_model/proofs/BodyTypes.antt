@@ -5,30 +5,21 @@ use Rattle.std.specs.Prelude.{Option, Some, None, if◌then◌else◌, not, All,
 use Rattle.std.proofs.lemmas.List.{length-map}
 use Rattle.std.proofs.lemmas.Simd.{map-map}
 use Rattle.std.proofs.lemmas.Option.{slice_get_within}
-use Rattle.easl_model.specs.Bodies.{Body, bodies_of, constructor_body}
-use Rattle.easl_model.specs.Clauses.{clause_of, clauses}
-use Rattle.easl_model.specs.Form.{fields_of}
-use Rattle.easl_model.specs.Names.{fields_in, members_of}
+use Rattle.easl_model.specs.{AreTyped, AreTypedConditions, Body, EndsSo, IsTyped, IsTypedMethod, IsWellFormed, Returns, after_all, block_of, bodies_of}
+use Rattle.easl_model.specs.{class_number, class_of, clause_of, clauses, condition_of, conditions, constructor_body, ends_unset, faults_of_block}
+use Rattle.easl_model.specs.{faults_of_bodies, faults_of_body, faults_of_clauses, faults_of_return, fields_in, fields_of, form_of, is_empty, members_of}
+use Rattle.easl_model.specs.{method_of, source_of, standing_of, start_of, statements_of, variable_of}
 use Rattle.easl_model.specs.declared.tree.Field.{Field}
 use Rattle.easl_model.specs.declared.tree.Param.{Param}
 use Rattle.easl_model.specs.declared.tree.Spec.{Spec}
 use Rattle.easl_model.specs.declared.tree.Value.{Value}
-use Rattle.easl_model.specs.BodyFaults.{after_all, ends_unset, faults_of_block, faults_of_body, faults_of_clauses, faults_of_return, no_return}
-use Rattle.easl_model.specs.CheckedForm.{class_number, form_of, method_of, source_of}
-use Rattle.easl_model.specs.Contexts.{is_empty, start_of, variable_of}
-use Rattle.easl_model.specs.Names.{class_of}
-use Rattle.easl_model.specs.Rules.{IsWellFormed, faults_of_bodies}
-use Rattle.easl_model.specs.Steps.{block_of}
+use Rattle.easl_model.specs.BodyFaults.{no_return}
 use Rattle.easl_model.specs.declared.scope.Context.{Context}
 use Rattle.easl_model.specs.declared.scope.Variable.{Variable}
 use Rattle.easl_model.specs.declared.fault.Rule.TheVariants as rule
 use Rattle.easl_model.proofs.Constructors.{IsFrom, body_from, classes_many, constructor_found, map_at}
 use Rattle.easl_model.proofs.None.{empty_is, none_at, none_of_five, not_broken, not_not}
 use Rattle.easl_model.proofs.Reaching.{fields_are, standing_in}
-use Rattle.easl_model.specs.Conditions.{condition_of, conditions}
-use Rattle.easl_model.specs.Statements.{statements_of}
-use Rattle.easl_model.specs.Typed.{AreTypedConditions}
-use Rattle.easl_model.specs.TypedBodies.{AreTyped, EndsSo, IsTyped, IsTypedMethod, Returns, standing_of}
 use Rattle.easl_model.specs.declared.tree.Requires.{Requires}
 use Rattle.easl_model.specs.declared.tree.Return.{Return}
 use Rattle.easl_model.proofs.ConditionTypes.{clauses_typed}
@@ -43,7 +34,8 @@ starts spec b =
     let many : length (fields_in (members_of spec b.class)) ≡ length (fields_of (form_of spec) b.class) = sym (ap length (fields_are spec b.class) ∙ length-map (fields_in (members_of spec b.class)) (λ (f : Field). class_number spec f.class)) in
     rw (slots, many) refl
 
-pub returns_typed : (spec : Spec) (c : Context) (result : Option ℕ) (v : Option Value) (b : Body) → no_return result v b.code.name ≡ [] → faults_of_return spec c result v ≡ [] → Returns (form_of spec) (standing_in c) result (option_map (source_of spec c) v)
+pub returns_typed : (spec : Spec) (c : Context) (result : Option ℕ) (v : Option Value) (b : Body) → no_return result v b.code.name ≡ []
+    → faults_of_return spec c result v ≡ [] → Returns (form_of spec) (standing_in c) result (option_map (source_of spec c) v)
 returns_typed spec c None None b missing free = tt
 returns_typed spec c None (Some v) b missing free = absurd cc
 returns_typed spec c (Some class) None b missing free = absurd cc
@@ -72,7 +64,10 @@ body_typed spec b from free =
       ends = ends_so b.constructor (returns_typed spec end result (given_by b) b parts.0 parts.3) unset;
     }
   where
-    ends_so : (so : Bool) → Returns (form_of spec) (standing_in (after_all spec (start_of spec b) (block_of b.code.body))) (class_of spec b.code.result) (option_map (source_of spec (after_all spec (start_of spec b) (block_of b.code.body))) (given_by b)) → (after_all spec (start_of spec b) (block_of b.code.body)).unset ≡ [] → EndsSo (form_of spec) (standing_in (after_all spec (start_of spec b) (block_of b.code.body))) (record (method_of spec b) { result = (if so then Some b.class else class_of spec b.code.result) }) so
+    ends_so : (so : Bool)
+        → Returns (form_of spec) (standing_in (after_all spec (start_of spec b) (block_of b.code.body))) (class_of spec b.code.result) (option_map (source_of spec (after_all spec (start_of spec b) (block_of b.code.body))) (given_by b))
+        → (after_all spec (start_of spec b) (block_of b.code.body)).unset ≡ []
+        → EndsSo (form_of spec) (standing_in (after_all spec (start_of spec b) (block_of b.code.body))) (record (method_of spec b) { result = (if so then Some b.class else class_of spec b.code.result) }) so
     ends_so true returns unset = (refl, unset)
     ends_so false returns unset = returns
 

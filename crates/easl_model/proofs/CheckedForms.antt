@@ -3,10 +3,8 @@ use Rattle.std.proofs.Common.{◌≡◌, ℕ, ◌<◌, true, List, get_or, ap, s
 use Rattle.std.specs.Option.{option_map, unwrap_or}
 use Rattle.std.specs.Prelude.{Option, IfSome, slice_get, length}
 use Rattle.std.proofs.lemmas.Option.{slice_get-get_or}
-use Rattle.easl_model.specs.Checked.{IsChecked, IsInRange}
+use Rattle.easl_model.specs.{ConstructorsNest, IsChecked, IsInRange, IsTyped}
 use Rattle.easl_model.specs.Form.{Form}
-use Rattle.easl_model.specs.Nests.{ConstructorsNest}
-use Rattle.easl_model.specs.TypedBodies.{IsTyped}
 use Rattle.easl_model.specs.declared.form.ClassForm.{ClassForm}
 use Rattle.easl_model.specs.declared.form.Method.{Method}
 use Rattle.easl_model.proofs.BodyTypes.{form_typed}

@@ -5,19 +5,14 @@ use Rattle.std.specs.Option.{option_map, option_map_or, unwrap_or}
 use Rattle.std.specs.Prelude.{Bool, true, false, Option, Some, None, ◌⊎◌, slice_get}
 use Rattle.std.proofs.lemmas.List.{length-map}
 use Rattle.std.proofs.lemmas.Option.{slice_get-map}
-use Rattle.easl_model.specs.Bodies.{Body, bodies_from, bodies_in, bodies_of, constructor_body, constructor_or_implicit, method_body}
-use Rattle.easl_model.specs.Form.{constructor_of}
-use Rattle.easl_model.specs.Names.{constructor_in, methods_in}
+use Rattle.easl_model.specs.{Body, bodies_from, bodies_in, bodies_of, class_named, class_of, classes_from, constructor_body, constructor_in, constructor_of}
+use Rattle.easl_model.specs.{constructor_or_implicit, form_of, is_same, method_body, method_of, methods_in, params_of, taken_by}
 use Rattle.easl_model.specs.declared.form.ClassForm.{ClassForm}
 use Rattle.easl_model.specs.declared.form.Method.{Method}
 use Rattle.easl_model.specs.declared.tree.Class.{Class}
 use Rattle.easl_model.specs.declared.tree.Code.{Code}
 use Rattle.easl_model.specs.declared.tree.Param.{Param}
 use Rattle.easl_model.specs.declared.tree.Spec.{Spec}
-use Rattle.easl_model.specs.BodyFaults.{params_of}
-use Rattle.easl_model.specs.CheckedForm.{classes_from, form_of, method_of}
-use Rattle.easl_model.specs.Names.{class_named, class_of, is_same}
-use Rattle.easl_model.specs.Typed.{taken_by}
 
 -- the item behind these
 pub item_behind : {A : Type 0} (before : List A) (x : A) (after : List A) → slice_get (before ++ x ∷ after) (length before) ≡ Some x
@@ -27,7 +22,8 @@ item_behind (y ∷ before) x after = item_behind before x after
 abbrev number_at : Spec → ℕ → List Class → ℕ → ℕ
 number_at spec methods cs class = unwrap_or (option_map (λ (x : ClassForm). x.constructor) (slice_get (classes_from spec methods cs) class)) 0
 
-stands_at : (spec : Spec) (before : List Body) (n methods : ℕ) (cs : List Class) (class : ℕ) (c : Class) → methods ≡ length before → slice_get cs class ≡ Some c → slice_get (before ++ bodies_from n cs) (number_at spec methods cs class) ≡ Some (constructor_body (n + class) c)
+stands_at : (spec : Spec) (before : List Body) (n methods : ℕ) (cs : List Class) (class : ℕ) (c : Class) → methods ≡ length before
+    → slice_get cs class ≡ Some c → slice_get (before ++ bodies_from n cs) (number_at spec methods cs class) ≡ Some (constructor_body (n + class) c)
 stands_at spec before n methods [] class c is there = absurd cc
 stands_at spec before n methods (d ∷ cs) zero c is there =
     let same : d ≡ c = cc in
@@ -42,16 +38,19 @@ stands_at spec before n methods (d ∷ cs) (suc class) c is there =
     rw number (subst (λ bs. slice_get bs (number_at spec (methods + length (bodies_in 0 d)) cs class) ≡ Some (constructor_body (suc n + class) c)) (append_assoc before (bodies_in n d) (bodies_from (suc n) cs)) rest)
 
 -- the body of a class's constructor
-pub constructor_stands : (spec : Spec) (class : ℕ) (c : Class) → slice_get spec.classes class ≡ Some c → slice_get (bodies_of spec) (constructor_of (form_of spec) class) ≡ Some (constructor_body class c)
+pub constructor_stands : (spec : Spec) (class : ℕ) (c : Class) → slice_get spec.classes class ≡ Some c
+    → slice_get (bodies_of spec) (constructor_of (form_of spec) class) ≡ Some (constructor_body class c)
 constructor_stands spec class c there =
     let number : 0 + class ≡ class = omega arith in
     stands_at spec [] 0 0 spec.classes class c refl there ∙ ap (λ n. Some (constructor_body n c)) number
 
-pub constructor_found : (spec : Spec) (class : ℕ) (c : Class) → slice_get spec.classes class ≡ Some c → slice_get (form_of spec).methods (constructor_of (form_of spec) class) ≡ Some (method_of spec (constructor_body class c))
+pub constructor_found : (spec : Spec) (class : ℕ) (c : Class) → slice_get spec.classes class ≡ Some c
+    → slice_get (form_of spec).methods (constructor_of (form_of spec) class) ≡ Some (method_of spec (constructor_body class c))
 constructor_found spec class c there =
     slice_get-map (method_of spec) (bodies_of spec) (constructor_of (form_of spec) class) ∙ ap (option_map (method_of spec)) (constructor_stands spec class c there)
 
-pub params_are : (spec : Spec) (c : Class) → (constructor_or_implicit c (constructor_in c.members)).params ≡ option_map_or (λ (code : Code). code.params) (constructor_in c.members) []
+pub params_are : (spec : Spec) (c : Class)
+    → (constructor_or_implicit c (constructor_in c.members)).params ≡ option_map_or (λ (code : Code). code.params) (constructor_in c.members) []
 params_are spec c = by (constructor_in c.members)
   where
     by : (o : Option Code) → (constructor_or_implicit c o).params ≡ option_map_or (λ (code : Code). code.params) o []
@@ -59,18 +58,21 @@ params_are spec c = by (constructor_in c.members)
     by (Some code) = refl
 
 -- what it takes
-pub taken_is : (spec : Spec) (class : ℕ) (c : Class) → slice_get spec.classes class ≡ Some c → taken_by (form_of spec) class ≡ map (λ (p : Param). class_of spec p.sort) (params_of spec class)
+pub taken_is : (spec : Spec) (class : ℕ) (c : Class) → slice_get spec.classes class ≡ Some c
+    → taken_by (form_of spec) class ≡ map (λ (p : Param). class_of spec p.sort) (params_of spec class)
 taken_is spec class c there =
     let found = constructor_found spec class c there in
     ap (λ (o : Option Method). option_map_or (λ (m : Method). m.params) o []) found
     ∙ ap (map (λ (p : Param). class_of spec p.sort)) (params_are spec c ∙ ap (λ (o : Option Class). option_map_or (λ (code : Code). code.params) (constructor_in (option_map_or (λ (x : Class). x.members) o [])) []) (sym there))
 
 -- a class that is named is there
-class_at_name : (t : Class → Bool) (i : ℕ) (cs : List Class) (n : ℕ) → position_from t i cs ≡ Some n → (k : ℕ) × (c : Class) × (n ≡ i + k) × (slice_get cs k ≡ Some c)
+class_at_name : (t : Class → Bool) (i : ℕ) (cs : List Class) (n : ℕ) → position_from t i cs ≡ Some n
+    → (k : ℕ) × (c : Class) × (n ≡ i + k) × (slice_get cs k ≡ Some c)
 class_at_name t i [] n e = absurd cc
 class_at_name t i (c ∷ cs) n e = by (t c) refl (λ rest. class_at_name t (i + 1) cs n rest)
   where
-    by : (b : Bool) → t c ≡ b → (position_from t (i + 1) cs ≡ Some n → (k : ℕ) × (d : Class) × (n ≡ i + 1 + k) × (slice_get cs k ≡ Some d)) → (k : ℕ) × (d : Class) × (n ≡ i + k) × (slice_get (c ∷ cs) k ≡ Some d)
+    by : (b : Bool) → t c ≡ b → (position_from t (i + 1) cs ≡ Some n → (k : ℕ) × (d : Class) × (n ≡ i + 1 + k) × (slice_get cs k ≡ Some d))
+        → (k : ℕ) × (d : Class) × (n ≡ i + k) × (slice_get (c ∷ cs) k ≡ Some d)
     by true is later = let here : Some i ≡ Some n = rw is at e in let same : i ≡ n = cc in (0, c, omega arith, refl)
     by false is later = let rest : position_from t (i + 1) cs ≡ Some n = rw is at e in let found = later rest in (suc found.0, found.1, omega (arith, found.2), found.3)
 

@@ -8,7 +8,8 @@ use Rattle.easl_model.specs.declared.place.Place.{Place}
 use Rattle.easl_model.specs.declared.token.Kind.{Kind}
 use Rattle.easl_model.specs.declared.token.Token.{Token}
 use Rattle.easl_model.specs.declared.token.Tokens.{Tokens}
-use Rattle.easl_model.specs.Tokens.{IsToken, IsLongest, IsGap, token_at, CutTo, Cut, done, gap, token, byte_len, AreTokens, NoPiece, IsStuckAt, IsBadTokenAt, IsNotUtf8At, IsPart, OneListOfTokens}
+use Rattle.easl_model.specs.{AreTokens, Cut, CutTo, IsBadTokenAt, IsGap, IsLongest, IsNotUtf8At, IsPart, IsToken, NoPiece, OneListOfTokens}
+use Rattle.easl_model.specs.{byte_len, done, gap, token, token_at}
 use Rattle.easl_model.proofs.Pieces.{one_longest, one_token, one_gap, gap_some, apart}
 use Rattle.easl_model.proofs.Words.{token_some}
 
@@ -26,7 +27,8 @@ behind_gap _ (a ∷ p) r _ _ g (gap before q s ts h c) e =
     moved before (a ∷ p) r q s ts same (same_rest (a ∷ p) r q s (sym e) same) c
 behind_gap _ (a ∷ p) r _ _ g (token k before q s ts l c) e = absurd (apart k q s (a ∷ p) r l.is_token g e)
 
-pub behind_token : (k : Kind) (before p r cs : List ℕ) (ts : List Token) → IsLongest k p r → Cut before cs ts → cs ≡ p ++ r → (us : List Token) × (ts ≡ token_at before k p ∷ us) × Cut (before ++ p) r us
+pub behind_token : (k : Kind) (before p r cs : List ℕ) (ts : List Token) → IsLongest k p r → Cut before cs ts → cs ≡ p ++ r
+    → (us : List Token) × (ts ≡ token_at before k p ∷ us) × Cut (before ++ p) r us
 behind_token k before [] r cs ts l c e = absurd (token_some k l.is_token)
 behind_token k _ (a ∷ p) r _ _ l (done before) e = cc
 behind_token k _ (a ∷ p) r _ _ l (gap before q s ts h c) e = absurd (apart k (a ∷ p) r q s l.is_token h (sym e))
@@ -63,7 +65,8 @@ one_list text x y a b =
 pub byte_len-append : (cs ds : List ℕ) → byte_len (cs ++ ds) ≡ byte_len cs + byte_len ds
 byte_len-append cs ds = ap length (encodes-append cs ds) ∙ length-append (encode_utf8_all cs) (encode_utf8_all ds)
 
-token_part : (k : Kind) (before cs rest : List ℕ) → IsToken k cs → (byte_len before < byte_len (before ++ cs)) × (byte_len (before ++ cs) ≤ byte_len (before ++ (cs ++ rest)))
+token_part : (k : Kind) (before cs rest : List ℕ) → IsToken k cs
+    → (byte_len before < byte_len (before ++ cs)) × (byte_len (before ++ cs) ≤ byte_len (before ++ (cs ++ rest)))
 token_part k before [] rest t = absurd (token_some k t)
 token_part k before (c ∷ cs) rest t = (
   omega (arith, byte_len-append before (c ∷ cs), length-le-encodes (c ∷ cs)),

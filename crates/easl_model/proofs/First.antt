@@ -2,10 +2,9 @@
 use Rattle.std.proofs.Common.{◌≡◌, Bool, true, false, List, [], ◌∷◌, refl}
 use Rattle.std.specs.Option.{option_or}
 use Rattle.std.specs.Prelude.{Option, Some, None, if◌then◌else◌}
-use Rattle.easl_model.specs.Cycles.{faults_of_cycles}
-use Rattle.easl_model.specs.Faults.{comes_before, earlier, first_of, first_with}
-use Rattle.easl_model.specs.HeaderFaults.{faults_of_headers}
-use Rattle.easl_model.specs.Rules.{IsWellFormed, faults_of_bodies, faults_of_lengths, first_fault}
+use Rattle.easl_model.specs.{IsWellFormed, faults_of_bodies, faults_of_cycles, faults_of_headers, faults_of_lengths, first_fault, first_of}
+use Rattle.easl_model.specs.{first_with}
+use Rattle.easl_model.specs.Faults.{comes_before}
 use Rattle.easl_model.specs.declared.fault.Fault.{Fault}
 use Rattle.easl_model.specs.declared.tree.Spec.{Spec}
 

@@ -1,8 +1,7 @@
 -- Tests and acts at a variant, as plain trees.
 use Rattle.std.proofs.Common.{◌≡◌, ℕ, List, map, ap, sym, ◌∙◌}
-use Rattle.easl_model.specs.Conditions.{Condition, condition_of, conditions}
+use Rattle.easl_model.specs.{Condition, Statement, condition_of, conditions, statement_of, statements_of}
 use Rattle.easl_model.specs.Conditions as condition
-use Rattle.easl_model.specs.Statements.{Statement, statement_of, statements_of}
 use Rattle.easl_model.specs.Statements as statement
 use Rattle.easl_model.specs.declared.form.Act.{Act}
 use Rattle.easl_model.specs.declared.form.Act.TheFolds.{fold-roll-Act}

@@ -7,24 +7,20 @@ use Rattle.std.proofs.lemmas.List.{length-map}
 use Rattle.std.proofs.lemmas.Bool.{ltb-false}
 use Rattle.std.proofs.lemmas.Option.{slice_get_within}
 use Rattle.std.proofs.lemmas.Slice.Zip.{AllZip-long}
-use Rattle.easl_model.specs.Bodies.{Body, bodies_in, bodies_of}
-use Rattle.easl_model.specs.BodyFaults.{after, after_all, ends_unset, faults_of_block, faults_of_body, faults_of_clauses, faults_of_return, no_class, no_return, params_of}
-use Rattle.easl_model.specs.Checked.{IsChecked, IsInRange}
-use Rattle.easl_model.specs.CheckedForm.{act_of, acts_of, assigned_by, class_number, classes_from, form_of, method_of, position_in, reach_by, source_of, test_of, tests_of}
-use Rattle.easl_model.specs.Clauses.{Clause, clause_of, clauses}
-use Rattle.easl_model.specs.Contexts.{start_of}
-use Rattle.easl_model.specs.Form.{ActInRange, ActsInRange, ClassInRange, Form, MethodInRange, SourceInRange, constructor_of}
-use Rattle.easl_model.specs.HeaderFaults.{faults_of_class, faults_of_header, other_name, second_constructors, second_names}
-use Rattle.easl_model.specs.Limits.{ActHasFewArguments, ActsHaveFewArguments, HasFewArguments, MethodKeepsLimits, count_in_place, written_by, written_in}
-use Rattle.easl_model.specs.Names.{class_named, class_of, codes_in, constructor_in, constructors_in, fields_in, methods_in}
-use Rattle.easl_model.specs.Paths.{Way, end_of, owner_of, way_of}
-use Rattle.easl_model.specs.Rules.{IsWellFormed, faults_of_bodies, too_long}
-use Rattle.easl_model.specs.Statements.{Statement, Statements, statement_of, statements_of}
+use Rattle.easl_model.specs.{ActHasFewArguments, ActInRange, ActsHaveFewArguments, ActsInRange, AreTyped, Assign, Block, Body, ClassInRange, Clause, Declare}
+use Rattle.easl_model.specs.{HasFewArguments, IsChecked, IsInRange, IsOf, IsTypedStatement, IsWellFormed, IsWithinLimits, MethodInRange, MethodKeepsLimits}
+use Rattle.easl_model.specs.{Returns, SourceInRange, Standing, Statement, Takes, Way, Written, act_of, acts_of, after, after_all, assigned_by, beyond}
+use Rattle.easl_model.specs.{block_of, bodies_in, bodies_of, class_named, class_number, class_of, classes_from, clause_of, clauses, codes_in, constructor_in}
+use Rattle.easl_model.specs.{constructor_of, constructors_in, count_in_place, end_of, ends_unset, excess_of_class, faults_of_block, faults_of_bodies}
+use Rattle.easl_model.specs.{faults_of_body, faults_of_class, faults_of_clauses, faults_of_header, faults_of_return, fields_in, form_of, method_of}
+use Rattle.easl_model.specs.{methods_in, no_class, other_name, owner_of, params_of, position_in, reach_by, second_constructors, second_names, source_of}
+use Rattle.easl_model.specs.{start_of, statement_of, statements_at, statements_in, statements_of, taken_by, test_of, tests_of, too_long, way_of, written_by}
+use Rattle.easl_model.specs.{written_in}
+use Rattle.easl_model.specs.BodyFaults.{no_return}
+use Rattle.easl_model.specs.Form.{Form}
+use Rattle.easl_model.specs.Statements.{Statements}
 use Rattle.easl_model.specs.Statements as act
-use Rattle.easl_model.specs.Steps.{Block, Written, Declare, Assign, If, block_of, none, ◌▸◌}
-use Rattle.easl_model.specs.TreeLimits.{IsWithinLimits, beyond, excess_of_class, statements_at, statements_in}
-use Rattle.easl_model.specs.Typed.{IsOf, Standing, Takes, taken_by}
-use Rattle.easl_model.specs.TypedBodies.{AreTyped, IsTypedStatement, Returns}
+use Rattle.easl_model.specs.Steps.{If, none, ◌▸◌}
 use Rattle.easl_model.specs.declared.fault.Rule.TheVariants as rule
 use Rattle.easl_model.specs.declared.fault.Which.TheVariants as which
 use Rattle.easl_model.specs.declared.form.ClassForm.{ClassForm}
@@ -155,7 +151,8 @@ module _ (form : Form) (few : (class : ℕ) → class < length form.classes → 
     acts_have_few s act.none end are = tt
     acts_have_few s (act.◌▸◌ x xs) end are = (act_has_few s x are.0 are.1, acts_have_few are.0 xs end are.2)
 
-  returned_in_range : (s : Standing) (result : Option ℕ) (v : Option Source) → Returns form s result v → IfSome v (SourceInRange (length form.classes)) × IfSome v HasFewArguments
+  returned_in_range : (s : Standing) (result : Option ℕ) (v : Option Source) → Returns form s result v
+      → IfSome v (SourceInRange (length form.classes)) × IfSome v HasFewArguments
   returned_in_range s result None is = (tt, tt)
   returned_in_range s None (Some v) is = absurd is
   returned_in_range s (Some class) (Some v) is = (source_in_range s v class is, source_has_few s v class is)
@@ -251,7 +248,8 @@ method_in_range spec b within from free kept =
       value = (returned_in_range form few _ (class_of spec b.code.result) (method_of spec b).value (returned_typed spec b free)).0;
     }
 
-method_keeps_limits : (spec : Spec) (b : Body) → IsWithinLimits spec → IsFrom spec.classes 0 b → faults_of_body spec b ≡ [] → too_long spec b ≡ [] → KeepsLimits b.code
+method_keeps_limits : (spec : Spec) (b : Body) → IsWithinLimits spec → IsFrom spec.classes 0 b → faults_of_body spec b ≡ [] → too_long spec b ≡ []
+    → KeepsLimits b.code
     → MethodKeepsLimits (form_of spec) (method_of spec b)
 method_keeps_limits spec b within from free short kept =
     let form = form_of spec in

@@ -9,21 +9,15 @@ use Rattle.std.proofs.lemmas.List.Folds.{list_any-append}
 use Rattle.std.proofs.lemmas.Map.Keys.{IsDistinct-cons}
 use Rattle.std.proofs.lemmas.Map.Steps.{length-le_from_distinct_below}
 use Rattle.std.proofs.lemmas.Option.{slice_get_within}
-use Rattle.easl_model.specs.Bodies.{bodies_of, constructor_body, constructor_or_implicit}
-use Rattle.easl_model.specs.BodyFaults.{after, after_all, class_in, ends_unset, faults_of_assigned, faults_of_block, faults_of_body, faults_of_clause, faults_of_clauses, faults_of_new, faults_of_return, faults_of_value, faults_of_written, named_twice, new_by, no_class, no_return, target_of_value, value_differs}
-use Rattle.easl_model.specs.CheckedForm.{act_of, acts_of, assigned_by, form_of, method_of, position_in, reach_by, source_of, test_of}
-use Rattle.easl_model.specs.Clauses.{clause_of, clauses}
-use Rattle.easl_model.specs.Contexts.{start_of}
-use Rattle.easl_model.specs.Cycles.{calls, classes_made, cycles_from, faults_of_cycles, leads_back, made_by, new_in, news_in, news_of}
-use Rattle.easl_model.specs.Faults.{broken_if}
-use Rattle.easl_model.specs.Form.{constructor_of}
-use Rattle.easl_model.specs.Limits.{body_of}
-use Rattle.easl_model.specs.Names.{class_named, class_of, constructor_in}
-use Rattle.easl_model.specs.Nests.{ConstructorsNest, NestsWithin, OfMade, OfStatement, OfStatements}
-use Rattle.easl_model.specs.Paths.{Way, end_of, owner_of, target_of, way_of}
-use Rattle.easl_model.specs.Rules.{IsWellFormed}
-use Rattle.easl_model.specs.Statements.{statement_of, statements_of}
-use Rattle.easl_model.specs.Steps.{Block, Written, Declare, Assign, If, block_of, ◌▸◌}
+use Rattle.easl_model.specs.{Assign, Block, ConstructorsNest, Declare, IsWellFormed, NestsWithin, OfMade, OfStatement, OfStatements, Way, Written, act_of}
+use Rattle.easl_model.specs.{acts_of, after, after_all, assigned_by, block_of, bodies_of, body_of, broken_if, calls, class_in, class_named, class_of}
+use Rattle.easl_model.specs.{classes_made, clause_of, clauses, constructor_body, constructor_in, constructor_of, constructor_or_implicit, cycles_from, end_of}
+use Rattle.easl_model.specs.{ends_unset, faults_of_assigned, faults_of_block, faults_of_body, faults_of_clause, faults_of_clauses, faults_of_cycles}
+use Rattle.easl_model.specs.{faults_of_new, faults_of_return, faults_of_value, faults_of_written, form_of, leads_back, made_by, method_of, named_twice}
+use Rattle.easl_model.specs.{new_by, new_in, news_in, news_of, no_class, owner_of, position_in, reach_by, source_of, start_of, statement_of, statements_of}
+use Rattle.easl_model.specs.{target_of, target_of_value, test_of, value_differs, way_of}
+use Rattle.easl_model.specs.BodyFaults.{no_return}
+use Rattle.easl_model.specs.Steps.{If, ◌▸◌}
 use Rattle.easl_model.specs.Steps as steps
 use Rattle.easl_model.specs.declared.fault.Rule.TheVariants as rule
 use Rattle.easl_model.specs.declared.form.Source.{Source}

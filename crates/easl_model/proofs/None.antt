@@ -3,8 +3,7 @@ use Rattle.std.proofs.Common.{◌≡◌, ℕ, zero, suc, Bool, true, false, List
 use Rattle.std.specs.List.{flat_map}
 use Rattle.std.specs.Prelude.{Some, not, slice_get}
 use Rattle.easl_model.specs.declared.place.Place.{Place}
-use Rattle.easl_model.specs.Contexts.{is_empty}
-use Rattle.easl_model.specs.Faults.{broken_if}
+use Rattle.easl_model.specs.{broken_if, is_empty}
 use Rattle.easl_model.specs.declared.fault.Rule.{Rule}
 
 pub none_of_both : {A : Type 0} (xs ys : List A) → xs ++ ys ≡ [] → (xs ≡ []) × (ys ≡ [])

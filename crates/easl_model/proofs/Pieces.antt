@@ -3,7 +3,7 @@ use Rattle.std.proofs.Common.{◌≡◌, ◌≢◌, ℕ, ◌⊎◌, inl, inr, Li
 use Rattle.std.specs.List.{AllByRecursion}
 use Rattle.easl_model.specs.declared.token.Kind.{Kind}
 use Rattle.easl_model.specs.declared.token.Kind.TheVariants as kind
-use Rattle.easl_model.specs.Tokens.{line_end, IsToken, IsLongest, is_white, EndsLine, IsGap, white, line_comment, comment}
+use Rattle.easl_model.specs.{EndsLine, IsGap, IsLongest, IsToken, comment, is_white, line_comment, line_end, white}
 use Rattle.easl_model.proofs.Words.{Others, group_of, group_at, group_white, begins_token, token_some, one_kind}
 
 -- the first goes on for m where the second ends
@@ -62,7 +62,8 @@ apart k (c ∷ p) r (d ∷ q) s t g e =
 slash_is_not_white : (c : ℕ) → IsTrue (is_white c) → c ≡ 47 → ⊥
 slash_is_not_white c h e = let f : IsTrue (is_white 47) = subst (λ x. IsTrue (is_white x)) e h in cc
 
-one_line : (cs r ds s : List ℕ) → AllByRecursion (λ c. c ≢ line_end) cs → EndsLine r → AllByRecursion (λ c. c ≢ line_end) ds → EndsLine s → cs ++ r ≡ ds ++ s → cs ≡ ds
+one_line : (cs r ds s : List ℕ) → AllByRecursion (λ c. c ≢ line_end) cs → EndsLine r → AllByRecursion (λ c. c ≢ line_end) ds → EndsLine s
+    → cs ++ r ≡ ds ++ s → cs ≡ ds
 one_line [] r [] s h i j k e = refl
 one_line [] [] (d ∷ ds) s h i j k e = cc
 one_line [] (c ∷ r) (d ∷ ds) s h i j k e = absurd (j.0 (let f : d ≡ c = cc in f ∙ i))

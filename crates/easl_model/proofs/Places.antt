@@ -5,7 +5,7 @@ use Rattle.std.proofs.lemmas.List.{reverse-append}
 use Rattle.std.proofs.lemmas.List.Sums.{sum_by_push, count_by-le-length, suffix_len-le-length}
 use Rattle.std.proofs.lemmas.Bool.{eq-eqb, ne_eqb}
 use Rattle.easl_model.specs.declared.place.Place.{Place}
-use Rattle.easl_model.specs.Tokens.{line_end, place_after}
+use Rattle.easl_model.specs.{line_end, place_after}
 
 abbrev ends : ℕ → Bool
 ends c = c == line_end

@@ -4,19 +4,15 @@ use Rattle.std.specs.List.{fold}
 use Rattle.std.specs.Option.{option_flatten, option_map, option_map_or, unwrap_or}
 use Rattle.std.specs.Prelude.{Option, Some, None, slice_get}
 use Rattle.std.proofs.lemmas.Option.{slice_get-map}
-use Rattle.easl_model.specs.Bodies.{bodies_in}
-use Rattle.easl_model.specs.Form.{fields_of}
-use Rattle.easl_model.specs.Names.{fields_in, members_of}
+use Rattle.easl_model.specs.{Standing, Way, along, bodies_in, class_at, class_behind, class_named, class_number, classes_from, end_of, field_among}
+use Rattle.easl_model.specs.{field_named, fields_in, fields_of, form_of, is_same, members_of, position_in, positions_along, reach_by, slot_class, slot_target}
+use Rattle.easl_model.specs.{valued}
 use Rattle.easl_model.specs.declared.form.ClassForm.{ClassForm}
 use Rattle.easl_model.specs.declared.place.Place.{Place}
 use Rattle.easl_model.specs.declared.tree.Class.{Class}
 use Rattle.easl_model.specs.declared.tree.Field.{Field}
 use Rattle.easl_model.specs.declared.tree.Spec.{Spec}
 use Rattle.easl_model.specs.declared.tree.Word.{Word}
-use Rattle.easl_model.specs.CheckedForm.{class_number, classes_from, form_of, position_in, positions_along, reach_by}
-use Rattle.easl_model.specs.Names.{class_named, field_among, field_named, is_same}
-use Rattle.easl_model.specs.Paths.{Way, along, end_of, slot_target, valued}
-use Rattle.easl_model.specs.Typed.{Standing, class_at, class_behind, slot_class}
 use Rattle.easl_model.specs.declared.scope.Context.{Context}
 use Rattle.easl_model.specs.declared.scope.Variable.{Variable}
 use Rattle.easl_model.specs.declared.scope.FieldAt.{FieldAt}
@@ -31,7 +27,8 @@ standing_in c = record { slots = Some c.class ∷ map (λ (v : Variable). v.clas
 abbrev classes_in : Spec → List Field → List ℕ
 classes_in spec fs = map (λ (f : Field). class_number spec f.class) fs
 
-fields_from : (spec : Spec) (methods : ℕ) (cs : List Class) (class : ℕ) → unwrap_or (option_map (λ (x : ClassForm). x.field_classes) (slice_get (classes_from spec methods cs) class)) [] ≡ classes_in spec (fields_in (option_map_or (λ (c : Class). c.members) (slice_get cs class) []))
+fields_from : (spec : Spec) (methods : ℕ) (cs : List Class) (class : ℕ)
+    → unwrap_or (option_map (λ (x : ClassForm). x.field_classes) (slice_get (classes_from spec methods cs) class)) [] ≡ classes_in spec (fields_in (option_map_or (λ (c : Class). c.members) (slice_get cs class) []))
 fields_from spec methods [] class = refl
 fields_from spec methods (c ∷ cs) zero = refl
 fields_from spec methods (c ∷ cs) (suc class) = fields_from spec (methods + length (bodies_in 0 c)) cs class
@@ -45,11 +42,13 @@ record Stands (spec : Spec) (n : ℕ) (fs : List Field) (found : FieldAt) (class
   position : found.position ≡ n + at
   there : slice_get (classes_in spec fs) at ≡ Some class
 
-field_stands : (spec : Spec) (n : ℕ) (fs : List Field) (name : List ℕ) (found : FieldAt) (class : ℕ) → field_among spec n fs name ≡ Some found → found.class ≡ Some class → Stands spec n fs found class
+field_stands : (spec : Spec) (n : ℕ) (fs : List Field) (name : List ℕ) (found : FieldAt) (class : ℕ) → field_among spec n fs name ≡ Some found
+    → found.class ≡ Some class → Stands spec n fs found class
 field_stands spec n [] name found class e is = absurd cc
 field_stands spec n (f ∷ fs) name found class e is = by (is_same f.name.name name) refl (λ rest. field_stands spec (suc n) fs name found class rest is)
   where
-    by : (b : Bool) → is_same f.name.name name ≡ b → (field_among spec (suc n) fs name ≡ Some found → Stands spec (suc n) fs found class) → Stands spec n (f ∷ fs) found class
+    by : (b : Bool) → is_same f.name.name name ≡ b → (field_among spec (suc n) fs name ≡ Some found → Stands spec (suc n) fs found class)
+        → Stands spec n (f ∷ fs) found class
     by true same later =
         let one : Some (let x : FieldAt = record { position = n; class = class_named spec f.class.name } in x) ≡ Some found = rw same at e in
         let found_is : (let x : FieldAt = record { position = n; class = class_named spec f.class.name } in x) ≡ found = cc in
@@ -65,10 +64,12 @@ valued_is None class is = absurd cc
 valued_is (Some n) class is = let one : n ≡ class = cc in ap Some one
 
 -- one more name
-pub next_class : (spec : Spec) (class next : ℕ) (w : Word) → along spec (Object class) w ≡ Object next → slice_get (fields_of (form_of spec) class) (position_in spec (Object class) w) ≡ Some next
+pub next_class : (spec : Spec) (class next : ℕ) (w : Word) → along spec (Object class) w ≡ Object next
+    → slice_get (fields_of (form_of spec) class) (position_in spec (Object class) w) ≡ Some next
 next_class spec class next w e = by (field_named spec class w.name) refl e
   where
-    by : (o : Option FieldAt) → field_named spec class w.name ≡ o → option_map_or (λ (f : FieldAt). valued f.class) o (Unknown w.place) ≡ Object next → slice_get (fields_of (form_of spec) class) (position_in spec (Object class) w) ≡ Some next
+    by : (o : Option FieldAt) → field_named spec class w.name ≡ o → option_map_or (λ (f : FieldAt). valued f.class) o (Unknown w.place) ≡ Object next
+        → slice_get (fields_of (form_of spec) class) (position_in spec (Object class) w) ≡ Some next
     by None none is = absurd cc
     by (Some f) found is =
         let of : f.class ≡ Some next = valued_is f.class next is in
@@ -87,15 +88,19 @@ opaque_ends spec w ws class e = let gone = unknown_stays spec w.place ws in absu
 pub unknown_ends : (spec : Spec) (place : Place) (ws : List Word) (class : ℕ) → fold (along spec) (Unknown place) ws ≡ Object class → ⊥
 unknown_ends spec place ws class e = let gone = unknown_stays spec place ws in absurd cc
 
-leads : (spec : Spec) (ws : List Word) (start class : ℕ) → fold (along spec) (Object start) ws ≡ Object class → class_behind (form_of spec) start (positions_along spec (Object start) ws) ≡ Some class
+leads : (spec : Spec) (ws : List Word) (start class : ℕ) → fold (along spec) (Object start) ws ≡ Object class
+    → class_behind (form_of spec) start (positions_along spec (Object start) ws) ≡ Some class
 leads spec [] start class e = let one : start ≡ class = cc in ap Some one
 leads spec (w ∷ ws) start class e = by (along spec (Object start) w) refl e (λ next rest. leads spec ws next class rest)
   where
-    ends : (vs : List Word) → fold (along spec) Opaque vs ≡ Object class → class_behind (form_of spec) start (positions_along spec (Object start) (w ∷ ws)) ≡ Some class
+    ends : (vs : List Word) → fold (along spec) Opaque vs ≡ Object class
+        → class_behind (form_of spec) start (positions_along spec (Object start) (w ∷ ws)) ≡ Some class
     ends [] rest = absurd cc
     ends (v ∷ vs) rest = absurd (opaque_ends spec v vs class rest)
 
-    by : (t : Target) → along spec (Object start) w ≡ t → fold (along spec) t ws ≡ Object class → ((next : ℕ) → fold (along spec) (Object next) ws ≡ Object class → class_behind (form_of spec) next (positions_along spec (Object next) ws) ≡ Some class) → class_behind (form_of spec) start (positions_along spec (Object start) (w ∷ ws)) ≡ Some class
+    by : (t : Target) → along spec (Object start) w ≡ t → fold (along spec) t ws ≡ Object class
+        → ((next : ℕ) → fold (along spec) (Object next) ws ≡ Object class → class_behind (form_of spec) next (positions_along spec (Object next) ws) ≡ Some class)
+        → class_behind (form_of spec) start (positions_along spec (Object start) (w ∷ ws)) ≡ Some class
     by (Object next) is rest later = rw (next_class spec start next w is, is) (later next rest)
     by Opaque is rest later = ends ws rest
     by (Unknown place) is rest later = absurd (unknown_ends spec place ws class rest)
@@ -104,18 +109,21 @@ pub slot_known : (c : Context) (slot start : ℕ) → slot_target c slot ≡ Obj
 slot_known c zero start e = let one : c.class ≡ start = cc in ap Some one
 slot_known c (suc n) start e = by (slice_get c.variables n) refl e
   where
-    by : (o : Option Variable) → slice_get c.variables n ≡ o → option_map_or (λ (v : Variable). valued v.class) o Opaque ≡ Object start → slot_class (standing_in c) (suc n) ≡ Some start
+    by : (o : Option Variable) → slice_get c.variables n ≡ o → option_map_or (λ (v : Variable). valued v.class) o Opaque ≡ Object start
+        → slot_class (standing_in c) (suc n) ≡ Some start
     by None none is = absurd cc
     by (Some v) found is = ap option_flatten (slice_get-map (λ (x : Variable). x.class) c.variables n ∙ ap (option_map (λ (x : Variable). x.class)) found) ∙ valued_is v.class start is
 
-pub reached : (spec : Spec) (c : Context) (way : Way) (class : ℕ) → end_of spec c way ≡ Object class → class_at (form_of spec) (standing_in c) (reach_by spec c way) ≡ Some class
+pub reached : (spec : Spec) (c : Context) (way : Way) (class : ℕ) → end_of spec c way ≡ Object class
+    → class_at (form_of spec) (standing_in c) (reach_by spec c way) ≡ Some class
 reached spec c way class e = by (slot_target c way.slot) refl e
   where
     ends : (vs : List Word) → fold (along spec) Opaque vs ≡ Object class → class_at (form_of spec) (standing_in c) (reach_by spec c way) ≡ Some class
     ends [] rest = absurd cc
     ends (v ∷ vs) rest = absurd (opaque_ends spec v vs class rest)
 
-    by : (t : Target) → slot_target c way.slot ≡ t → fold (along spec) t way.names ≡ Object class → class_at (form_of spec) (standing_in c) (reach_by spec c way) ≡ Some class
+    by : (t : Target) → slot_target c way.slot ≡ t → fold (along spec) t way.names ≡ Object class
+        → class_at (form_of spec) (standing_in c) (reach_by spec c way) ≡ Some class
     by (Object start) is rest = rw (slot_known c way.slot start is, is) (leads spec way.names start class rest)
     by Opaque is rest = ends way.names rest
     by (Unknown place) is rest = absurd (unknown_ends spec place way.names class rest)

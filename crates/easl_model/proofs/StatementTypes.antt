@@ -4,24 +4,19 @@ use Rattle.std.specs.List.{fold, last_or}
 use Rattle.std.specs.Option.{option_and_then, option_map_or}
 use Rattle.std.specs.Prelude.{Option, Some, None, not, slice_get, is_some}
 use Rattle.std.proofs.lemmas.List.{map-append}
-use Rattle.easl_model.specs.Form.{fields_of}
+use Rattle.easl_model.specs.{AreTyped, Assign, Block, Declare, IsOf, IsTypedStatement, Standing, Way, Written, act_of, acts_of, after, after_all, along}
+use Rattle.easl_model.specs.{assigned, assigned_by, broken_if, but_last, class_in, class_named, end_of, faults_of_assigned, faults_of_block, faults_of_clause}
+use Rattle.easl_model.specs.{faults_of_declared, faults_of_value, faults_of_written, field_named, field_of_this, field_unready, fields_of, form_of, from_this}
+use Rattle.easl_model.specs.{is_opaque, is_this, is_this_by, left_by, named_twice, named_way, no_name, owner_of, position_in, reach_by, set_by, slot_target}
+use Rattle.easl_model.specs.{source_of, statement_of, statements_of, target_of, test_of, this_assigned, valued, variable_named, way_by, way_of}
 use Rattle.easl_model.specs.declared.form.Act.{Act}
 use Rattle.easl_model.specs.declared.form.Source.{Source}
 use Rattle.easl_model.specs.declared.tree.Path.{Path}
 use Rattle.easl_model.specs.declared.tree.Spec.{Spec}
 use Rattle.easl_model.specs.declared.tree.Value.{Value}
 use Rattle.easl_model.specs.declared.tree.Word.{Word}
-use Rattle.easl_model.specs.BodyFaults.{after, after_all, class_in, faults_of_assigned, faults_of_block, faults_of_clause, faults_of_declared, faults_of_value, faults_of_written, field_unready, is_opaque, named_twice, no_name, set_by, this_assigned}
-use Rattle.easl_model.specs.CheckedForm.{act_of, acts_of, assigned_by, form_of, position_in, reach_by, source_of, test_of}
-use Rattle.easl_model.specs.Contexts.{assigned, variable_named}
-use Rattle.easl_model.specs.Faults.{broken_if}
-use Rattle.easl_model.specs.Names.{class_named, field_named}
-use Rattle.easl_model.specs.Paths.{Way, along, but_last, end_of, field_of_this, from_this, is_this, is_this_by, named_way, owner_of, slot_target, target_of, valued, way_by, way_of}
-use Rattle.easl_model.specs.Steps.{Block, Written, Declare, Assign, If, ◌▸◌}
+use Rattle.easl_model.specs.Steps.{If, ◌▸◌}
 use Rattle.easl_model.specs.Steps as steps
-use Rattle.easl_model.specs.Typed.{Standing, IsOf}
-use Rattle.easl_model.specs.TypedBodies.{AreTyped, IsTypedStatement, left_by}
-use Rattle.easl_model.specs.Statements.{statement_of, statements_of}
 use Rattle.easl_model.specs.declared.scope.Context.{Context}
 use Rattle.easl_model.specs.declared.scope.Variable.{Variable}
 use Rattle.easl_model.specs.declared.fault.Rule.TheVariants as rule
@@ -42,7 +37,9 @@ Follows spec c x = IsTypedStatement (form_of spec) (standing_in c) (statement_of
 declare_typed : (spec : Spec) (c : Context) (class name : Word) (v : Value) → faults_of_declared spec c class name v ≡ [] → Follows spec c (Declare class name v)
 declare_typed spec c class name v none = by (class_named spec class.name) refl none
   where
-    by : (o : Option ℕ) → class_named spec class.name ≡ o → broken_if (not (is_some o)) rule.Unknown class.place ++ named_twice c name ++ faults_of_value spec c o v ≡ [] → Follows spec c (Declare class name v)
+    by : (o : Option ℕ) → class_named spec class.name ≡ o
+        → broken_if (not (is_some o)) rule.Unknown class.place ++ named_twice c name ++ faults_of_value spec c o v ≡ []
+        → Follows spec c (Declare class name v)
     by None named none = absurd cc
     by (Some of) named none =
         let rest = none_of_both (named_twice c name) (faults_of_value spec c (Some of) v) none in
@@ -53,7 +50,8 @@ declare_typed spec c class name v none = by (class_named spec class.name) refl n
         rw (local_act (source_of spec c v)) (of, value_typed spec c v of rest.1, sym behind)
 
 -- the last name of a way
-last_step : (spec : Spec) (t : Target) (names : List Word) (last : Word) → last_or None names ≡ Some last → fold (along spec) t names ≡ along spec (fold (along spec) t (but_last names)) last
+last_step : (spec : Spec) (t : Target) (names : List Word) (last : Word) → last_or None names ≡ Some last
+    → fold (along spec) t names ≡ along spec (fold (along spec) t (but_last names)) last
 last_step spec t [] last e = absurd cc
 last_step spec t (w ∷ []) last e = let same : w ≡ last = cc in ap (along spec t) same
 last_step spec t (w ∷ v ∷ names) last e = last_step spec (along spec t w) (v ∷ names) last e
@@ -69,7 +67,8 @@ owner_object spec Opaque last class e = absurd cc
 owner_object spec (Unknown place) last class e = absurd cc
 
 -- `this` is not what is assigned
-not_this : (c : Context) (head : Option Word) (fields : List Word) → is_this_by head fields ≡ false → (way_by c head fields).slot ≡ 0 → (way_by c head fields).names ≡ [] → ⊥
+not_this : (c : Context) (head : Option Word) (fields : List Word) → is_this_by head fields ≡ false → (way_by c head fields).slot ≡ 0
+    → (way_by c head fields).names ≡ [] → ⊥
 not_this c None [] e slot names = absurd cc
 not_this c None (w ∷ ws) e slot names = absurd cc
 not_this c (Some w) fields e slot names = by (variable_named c w.name) slot names
@@ -79,7 +78,9 @@ not_this c (Some w) fields e slot names = by (variable_named c w.name) slot name
     by (Some n) slot names = absurd (omega (arith, slot))
 
 -- what is left of the unset fields behind the write of a field
-unset_left : (spec : Spec) (c : Context) (slot : ℕ) (names : List Word) (last : Word) (class : ℕ) → last_or None names ≡ Some last → end_of spec c (record { slot = slot; names = names }) ≡ Object class → left_by slot (reach_by spec c (record { slot = slot; names = but_last names })).fields (position_in spec (end_of spec c (record { slot = slot; names = but_last names })) last) c.unset ≡ (set_by spec c (record { slot = slot; names = names })).unset
+unset_left : (spec : Spec) (c : Context) (slot : ℕ) (names : List Word) (last : Word) (class : ℕ) → last_or None names ≡ Some last
+    → end_of spec c (record { slot = slot; names = names }) ≡ Object class
+    → left_by slot (reach_by spec c (record { slot = slot; names = but_last names })).fields (position_in spec (end_of spec c (record { slot = slot; names = but_last names })) last) c.unset ≡ (set_by spec c (record { slot = slot; names = names })).unset
 unset_left spec c slot [] last class e there = absurd cc
 unset_left spec c (suc n) (w ∷ []) last class e there = refl
 unset_left spec c (suc n) (w ∷ v ∷ names) last class e there = refl
@@ -89,7 +90,9 @@ unset_left spec c zero (w ∷ []) last class e there = by (field_named spec c.cl
     same : w ≡ last
     same = cc
 
-    by : (o : Option FieldAt) → field_named spec c.class w.name ≡ o → option_map_or (λ (f : FieldAt). valued f.class) o (Unknown w.place) ≡ Object class → left_by 0 [] (position_in spec (Object c.class) last) c.unset ≡ (option_map_or (λ (f : FieldAt). assigned f.position c) o c).unset
+    by : (o : Option FieldAt) → field_named spec c.class w.name ≡ o
+        → option_map_or (λ (f : FieldAt). valued f.class) o (Unknown w.place) ≡ Object class
+        → left_by 0 [] (position_in spec (Object c.class) last) c.unset ≡ (option_map_or (λ (f : FieldAt). assigned f.position c) o c).unset
     by None found is = absurd cc
     by (Some f) found is = rw (← same, found) refl
 
@@ -104,13 +107,18 @@ slots_stay spec c way = by (option_and_then (λ (w : Word). field_named spec c.c
 abbrev Assigns : Spec → Context → Way → Act → Type 0
 Assigns spec c way a = IsTypedStatement (form_of spec) (standing_in c) (statement_of a) (standing_in (set_by spec c way))
 
-assigned_typed : (spec : Spec) (c : Context) (way : Way) (s : Source) (class : ℕ) → (way.slot ≡ 0 → way.names ≡ [] → ⊥) → end_of spec c way ≡ Object class → field_unready spec c (from_this (owner_of way)) ≡ [] → IsOf (form_of spec) (standing_in c) s class → Assigns spec c way (assigned_by spec c way (last_or None way.names) s)
+assigned_typed : (spec : Spec) (c : Context) (way : Way) (s : Source) (class : ℕ) → (way.slot ≡ 0 → way.names ≡ [] → ⊥)
+    → end_of spec c way ≡ Object class → field_unready spec c (from_this (owner_of way)) ≡ [] → IsOf (form_of spec) (standing_in c) s class
+    → Assigns spec c way (assigned_by spec c way (last_or None way.names) s)
 assigned_typed spec c way s class other e read of = by way.slot way.names other e read
   where
-    same_standing : (ss ts : List (Option ℕ)) (us vs : List ℕ) → ss ≡ ts → us ≡ vs → (let x : Standing = record { slots = ss; unset = us } in x) ≡ record { slots = ts; unset = vs }
+    same_standing : (ss ts : List (Option ℕ)) (us vs : List ℕ) → ss ≡ ts → us ≡ vs
+        → (let x : Standing = record { slots = ss; unset = us } in x) ≡ record { slots = ts; unset = vs }
     same_standing ss ts us vs e f = ap (λ xs. let x : Standing = record { slots = xs; unset = us } in x) e ∙ ap (λ xs. let x : Standing = record { slots = ts; unset = xs } in x) f
 
-    by : (slot : ℕ) (names : List Word) → (slot ≡ 0 → names ≡ [] → ⊥) → end_of spec c (record { slot = slot; names = names }) ≡ Object class → field_unready spec c (from_this (owner_of (record { slot = slot; names = names }))) ≡ [] → Assigns spec c (record { slot = slot; names = names }) (assigned_by spec c (record { slot = slot; names = names }) (last_or None names) s)
+    by : (slot : ℕ) (names : List Word) → (slot ≡ 0 → names ≡ [] → ⊥) → end_of spec c (record { slot = slot; names = names }) ≡ Object class
+        → field_unready spec c (from_this (owner_of (record { slot = slot; names = names }))) ≡ []
+        → Assigns spec c (record { slot = slot; names = names }) (assigned_by spec c (record { slot = slot; names = names }) (last_or None names) s)
     by zero [] other e read = absurd (other refl refl)
     by (suc n) [] other e read = rw (change_act (suc n) s) (class, omega arith, slot_known c (suc n) class e, of, refl)
     by slot (w ∷ names) other e read =

@@ -3,10 +3,9 @@ use Rattle.std.proofs.Common.{inl, inr, ◌≡◌, ℕ, zero, suc, ◌*◌, ◌�
 use Rattle.std.specs.List.{flat_map}
 use Rattle.std.specs.Prelude.{Option, Some, None, option_to_list, slice_get}
 use Rattle.std.proofs.lemmas.List.{length-drop, length-map}
-use Rattle.easl_model.specs.Bodies.{Body, bodies_from, bodies_in, constructor_body, constructor_or_implicit, method_body}
-use Rattle.easl_model.specs.Names.{codes_in, constructor_in, fields_in, methods_in}
-use Rattle.easl_model.specs.Steps.{block_of}
-use Rattle.easl_model.specs.TreeLimits.{beyond, conditionals_in, excess_in, excess_of_class, excess_of_clause, excess_of_code, excess_of_value, statements_in}
+use Rattle.easl_model.specs.{Body, beyond, block_of, bodies_from, bodies_in, codes_in, conditionals_in, constructor_body, constructor_in}
+use Rattle.easl_model.specs.{constructor_or_implicit, excess_in, excess_of_class, excess_of_clause, excess_of_code, excess_of_value, fields_in, method_body}
+use Rattle.easl_model.specs.{methods_in, statements_in}
 use Rattle.easl_model.specs.declared.fault.Excess.{Excess}
 use Rattle.easl_model.specs.declared.fault.Which.{Which}
 use Rattle.easl_model.specs.declared.fault.Which.TheVariants as which

@@ -13,12 +13,10 @@ use Rattle.easl_model.specs.declared.tree.Param.{Param}
 use Rattle.easl_model.specs.declared.tree.Spec.{Spec}
 use Rattle.easl_model.specs.declared.tree.Value.{Value}
 use Rattle.easl_model.specs.declared.tree.Value.TheVariants as value
-use Rattle.easl_model.specs.BodyFaults.{argument_differs, faults_of_argument, faults_of_arguments, faults_of_made, faults_of_new, faults_of_object, faults_of_taken, faults_of_value, new_by, no_name, params_of, place_of_argument, target_of_argument, target_of_value, value_differs, wrong_number}
-use Rattle.easl_model.specs.CheckedForm.{argument_by, argument_of, class_number, form_of, reach_of, source_of}
-use Rattle.easl_model.specs.Faults.{broken_if}
-use Rattle.easl_model.specs.Names.{class_named, class_of}
-use Rattle.easl_model.specs.Paths.{target_of}
-use Rattle.easl_model.specs.Typed.{Gives, IsOf, Takes}
+use Rattle.easl_model.specs.{Gives, IsOf, Takes, argument_by, argument_differs, argument_of, broken_if, class_named, class_number, class_of}
+use Rattle.easl_model.specs.{faults_of_argument, faults_of_arguments, faults_of_made, faults_of_new, faults_of_object, faults_of_taken, faults_of_value}
+use Rattle.easl_model.specs.{form_of, new_by, no_name, params_of, place_of_argument, reach_of, source_of, target_of, target_of_argument, target_of_value}
+use Rattle.easl_model.specs.{value_differs, wrong_number}
 use Rattle.easl_model.specs.declared.scope.Context.{Context}
 use Rattle.easl_model.specs.declared.fault.Rule.TheVariants as rule
 use Rattle.easl_model.specs.declared.scope.Target.{Target}
@@ -35,12 +33,15 @@ same_number m n place none =
 
 -- arguments
 
-argument_typed : (spec : Spec) (c : Context) (x : Arg) (taken : Option ℕ) → argument_differs (place_of_argument x) taken (target_of_argument spec c x) ≡ [] → faults_of_argument spec c x ≡ [] → Takes (form_of spec) (standing_in c) taken (argument_of spec c x)
+argument_typed : (spec : Spec) (c : Context) (x : Arg) (taken : Option ℕ)
+    → argument_differs (place_of_argument x) taken (target_of_argument spec c x) ≡ [] → faults_of_argument spec c x ≡ []
+    → Takes (form_of spec) (standing_in c) taken (argument_of spec c x)
 argument_typed spec c (arg.Literal w) None differs within = tt
 argument_typed spec c (arg.Literal w) (Some class) differs within = absurd cc
 argument_typed spec c (arg.Path path) taken differs within = by (target_of spec c path) refl taken differs (path_parts spec c path within).0
   where
-    by : (t : Target) → target_of spec c path ≡ t → (taken : Option ℕ) → argument_differs path.place taken t ≡ [] → no_name t ≡ [] → Takes (form_of spec) (standing_in c) taken (argument_by (reach_of spec c path) t)
+    by : (t : Target) → target_of spec c path ≡ t → (taken : Option ℕ) → argument_differs path.place taken t ≡ [] → no_name t ≡ []
+        → Takes (form_of spec) (standing_in c) taken (argument_by (reach_of spec c path) t)
     by (Object class) is None differs named = absurd cc
     by (Object class) is (Some of) differs named =
         let one = same_number class of path.place differs in
@@ -50,7 +51,9 @@ argument_typed spec c (arg.Path path) taken differs within = by (target_of spec 
     by (Unknown place) is taken differs named = absurd cc
 
 -- a parameter at the place
-arguments_typed : (spec : Spec) (c : Context) (before params : List Param) (k : ℕ) (xs : List Arg) → k ≡ length before → length xs ≡ length params → faults_of_arguments spec c (before ++ params) k xs ≡ [] → AllZip (Takes (form_of spec) (standing_in c)) (map (λ (p : Param). class_of spec p.sort) params) (map (argument_of spec c) xs)
+arguments_typed : (spec : Spec) (c : Context) (before params : List Param) (k : ℕ) (xs : List Arg) → k ≡ length before → length xs ≡ length params
+    → faults_of_arguments spec c (before ++ params) k xs ≡ []
+    → AllZip (Takes (form_of spec) (standing_in c)) (map (λ (p : Param). class_of spec p.sort) params) (map (argument_of spec c) xs)
 arguments_typed spec c before [] k [] is many none = tt
 arguments_typed spec c before (p ∷ params) k [] is many none = absurd (omega (arith, many))
 arguments_typed spec c before [] k (x ∷ xs) is many none = absurd (omega (arith, many))
@@ -66,7 +69,8 @@ arguments_typed spec c before (p ∷ params) k (x ∷ xs) is many none =
 
 -- values
 
-made_typed : (spec : Spec) (c : Context) (new : New) (class : ℕ) → class_named spec new.class.name ≡ Some class → faults_of_made spec c (params_of spec class) new ≡ [] → IsOf (form_of spec) (standing_in c) (source_of spec c (value.New new)) class
+made_typed : (spec : Spec) (c : Context) (new : New) (class : ℕ) → class_named spec new.class.name ≡ Some class
+    → faults_of_made spec c (params_of spec class) new ≡ [] → IsOf (form_of spec) (standing_in c) (source_of spec c (value.New new)) class
 made_typed spec c new class named none =
     let there = class_there spec new.class.name class named in
     let parts = none_of_both (wrong_number (length (params_of spec class)) new) (faults_of_arguments spec c (params_of spec class) 0 new.args) none in
@@ -77,7 +81,8 @@ made_typed spec c new class named none =
     rw number (refl, within, subst (λ ts. AllZip (Takes (form_of spec) (standing_in c)) ts (map (argument_of spec c) new.args)) (sym (taken_is spec class there.0 there.1)) args)
 
 -- a value without a fault is an object of what takes it
-pub value_typed : (spec : Spec) (c : Context) (v : Value) (taken : ℕ) → faults_of_value spec c (Some taken) v ≡ [] → IsOf (form_of spec) (standing_in c) (source_of spec c v) taken
+pub value_typed : (spec : Spec) (c : Context) (v : Value) (taken : ℕ) → faults_of_value spec c (Some taken) v ≡ []
+    → IsOf (form_of spec) (standing_in c) (source_of spec c v) taken
 value_typed spec c (value.Path path) taken none =
     let parts = none_of_both (value_differs path.place (Some taken) (target_of spec c path)) (faults_of_object spec c path) none in
     let object = object_given spec c path parts.1 in
@@ -88,6 +93,8 @@ value_typed spec c (value.New new) taken none = by (class_named spec new.class.n
     parts : (value_differs new.place (Some taken) (target_of_value spec c (value.New new)) ≡ []) × (faults_of_new spec c new ≡ [])
     parts = none_of_both (value_differs new.place (Some taken) (target_of_value spec c (value.New new))) (faults_of_new spec c new) none
 
-    by : (o : Option ℕ) → class_named spec new.class.name ≡ o → value_differs new.place (Some taken) (option_map_or Object o (Unknown new.class.place)) ≡ [] → new_by spec c new o ≡ [] → IsOf (form_of spec) (standing_in c) (source_of spec c (value.New new)) taken
+    by : (o : Option ℕ) → class_named spec new.class.name ≡ o
+        → value_differs new.place (Some taken) (option_map_or Object o (Unknown new.class.place)) ≡ [] → new_by spec c new o ≡ []
+        → IsOf (form_of spec) (standing_in c) (source_of spec c (value.New new)) taken
     by None named differs within = absurd cc
     by (Some class) named differs within = subst (λ k. IsOf (form_of spec) (standing_in c) (source_of spec c (value.New new)) k) (same_number class taken new.place differs) (made_typed spec c new class named within)

@@ -12,7 +12,7 @@ use Rattle.easl_model.specs.declared.token.Kind.{Kind}
 use Rattle.easl_model.specs.declared.token.Kind.TheVariants as kind
 use Rattle.easl_model.specs.declared.token.Mark.{Mark}
 use Rattle.easl_model.specs.declared.token.Mark.TheVariants as mark
-use Rattle.easl_model.specs.Tokens.{key_text, mark_text, begins_name, IsWord, IsToken, is_white}
+use Rattle.easl_model.specs.{IsToken, IsWord, begins_name, is_white, key_text, mark_text}
 
 -- names and keywords, numbers, quoted texts, marks, and what begins no token
 pub data Group : Type 0 where

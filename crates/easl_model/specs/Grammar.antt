@@ -46,12 +46,15 @@ pub data IsListed {A : Type 0} (I : List Token → A → Type 0) : List Token �
 -- ("." Name)*
 pub data IsFields (text : List ℕ) : List Token → List Word → Type 0 where
   no_fields : IsFields text [] []
-  next_field : {dot t : Token} {w : Word} {ts : List Token} {ws : List Word} → IsMark mark.Dot dot → IsName text t w → IsFields text ts ws → IsFields text (dot ∷ t ∷ ts) (w ∷ ws)
+  next_field : {dot t : Token} {w : Word} {ts : List Token} {ws : List Word} → IsMark mark.Dot dot → IsName text t w → IsFields text ts ws
+      → IsFields text (dot ∷ t ∷ ts) (w ∷ ws)
 
 -- ("this" | Name) fields
 pub data IsPath (text : List ℕ) : List Token → Path → Type 0 where
-  this_path : {t : Token} {ts : List Token} {ws : List Word} → IsKey key.This t → IsFields text ts ws → IsPath text (t ∷ ts) (record { head = None; place = t.place; fields = ws })
-  named_path : {t : Token} {w : Word} {ts : List Token} {ws : List Word} → IsName text t w → IsFields text ts ws → IsPath text (t ∷ ts) (record { head = Some w; place = w.place; fields = ws })
+  this_path : {t : Token} {ts : List Token} {ws : List Word} → IsKey key.This t → IsFields text ts ws
+      → IsPath text (t ∷ ts) (record { head = None; place = t.place; fields = ws })
+  named_path : {t : Token} {w : Word} {ts : List Token} {ws : List Word} → IsName text t w → IsFields text ts ws
+      → IsPath text (t ∷ ts) (record { head = Some w; place = w.place; fields = ws })
 
 -- path ("==" | "!=") path
 pub data IsComparison (text : List ℕ) : List Token → Cond → Type 0 where
@@ -69,7 +72,8 @@ mutual
   -- ("||" all)*
   pub data IsAlls (text : List ℕ) : List Token → List Cond → Type 0 where
     no_alls : IsAlls text [] []
-    next_all : {t : Token} {ts us : List Token} {x : Cond} {xs : List Cond} → IsMark mark.Or t → IsAll text ts x → IsAlls text us xs → IsAlls text (t ∷ ts ++ us) (x ∷ xs)
+    next_all : {t : Token} {ts us : List Token} {x : Cond} {xs : List Cond} → IsMark mark.Or t → IsAll text ts x → IsAlls text us xs
+        → IsAlls text (t ∷ ts ++ us) (x ∷ xs)
 
   -- atom ("&&" atom)*, where one member is itself
   pub data IsAll (text : List ℕ) : List Token → Cond → Type 0 where
@@ -79,12 +83,14 @@ mutual
   -- ("&&" atom)*
   pub data IsAtoms (text : List ℕ) : List Token → List Cond → Type 0 where
     no_atoms : IsAtoms text [] []
-    next_atom : {t : Token} {ts us : List Token} {x : Cond} {xs : List Cond} → IsMark mark.And t → IsAtom text ts x → IsAtoms text us xs → IsAtoms text (t ∷ ts ++ us) (x ∷ xs)
+    next_atom : {t : Token} {ts us : List Token} {x : Cond} {xs : List Cond} → IsMark mark.And t → IsAtom text ts x → IsAtoms text us xs
+        → IsAtoms text (t ∷ ts ++ us) (x ∷ xs)
 
   -- comparison | "(" any ")"
   pub data IsAtom (text : List ℕ) : List Token → Cond → Type 0 where
     comparison : {ts : List Token} {x : Cond} → IsComparison text ts x → IsAtom text ts x
-    group : {opening closing : Token} {ts : List Token} {x : Cond} → IsMark mark.Open opening → IsAny text ts x → IsMark mark.Close closing → IsAtom text (opening ∷ ts ++ closing ∷ []) x
+    group : {opening closing : Token} {ts : List Token} {x : Cond} → IsMark mark.Open opening → IsAny text ts x → IsMark mark.Close closing
+        → IsAtom text (opening ∷ ts ++ closing ∷ []) x
 
 -- path | literal
 pub data IsArg (text : List ℕ) : List Token → Arg → Type 0 where
@@ -94,11 +100,14 @@ pub data IsArg (text : List ℕ) : List Token → Arg → Type 0 where
 -- path | "new" Name "(" args? ")"
 pub data IsValue (text : List ℕ) : List Token → Value → Type 0 where
   path_value : {ts : List Token} {p : Path} → IsPath text ts p → IsValue text ts (value.Path p)
-  new_value : {new class opening closing : Token} {c : Word} {ts : List Token} {xs : List Arg} → IsKey key.New new → IsName text class c → IsMark mark.Open opening → IsListed (IsArg text) ts xs → IsMark mark.Close closing → IsValue text (new ∷ class ∷ opening ∷ ts ++ closing ∷ []) (value.New (record { place = new.place; class = c; args = xs }))
+  new_value : {new class opening closing : Token} {c : Word} {ts : List Token} {xs : List Arg} → IsKey key.New new → IsName text class c
+      → IsMark mark.Open opening → IsListed (IsArg text) ts xs → IsMark mark.Close closing
+      → IsValue text (new ∷ class ∷ opening ∷ ts ++ closing ∷ []) (value.New (record { place = new.place; class = c; args = xs }))
 
 -- "=" value ";"
 pub data IsSet (text : List ℕ) : List Token → Value → Type 0 where
-  set : {assign semicolon : Token} {ts : List Token} {x : Value} → IsMark mark.Assign assign → IsValue text ts x → IsMark mark.Semicolon semicolon → IsSet text (assign ∷ ts ++ semicolon ∷ []) x
+  set : {assign semicolon : Token} {ts : List Token} {x : Value} → IsMark mark.Assign assign → IsValue text ts x → IsMark mark.Semicolon semicolon
+      → IsSet text (assign ∷ ts ++ semicolon ∷ []) x
 
 -- "(" comparison ")"
 pub data IsGuard (text : List ℕ) : List Token → Cond → Type 0 where
@@ -161,7 +170,8 @@ pub data IsParam (text : List ℕ) : List Token → Param → Type 0 where
 
 -- "(" params? ")"
 pub data IsParams (text : List ℕ) : List Token → List Param → Type 0 where
-  params : {opening closing : Token} {ts : List Token} {ps : List Param} → IsMark mark.Open opening → IsListed (IsParam text) ts ps → IsMark mark.Close closing → IsParams text (opening ∷ ts ++ closing ∷ []) ps
+  params : {opening closing : Token} {ts : List Token} {ps : List Param} → IsMark mark.Open opening → IsListed (IsParam text) ts ps
+      → IsMark mark.Close closing → IsParams text (opening ∷ ts ++ closing ∷ []) ps
 
 -- field | constructor | method, where
 -- field := Name Name ";", constructor := Name params "{" step* "}", method := result Name params "{" clause* step* return? "}"
@@ -180,9 +190,11 @@ pub data IsMember (text : List ℕ) : List Token → Member → Type 0 where
 
 -- "class" Name "{" member* "}"
 pub data IsClass (text : List ℕ) : List Token → Class → Type 0 where
-  class : {keyword name begin end : Token} {n : Word} {ts : List Token} {xs : List Member} → IsKey key.Class keyword → IsName text name n → IsMark mark.Begin begin → IsMany (IsMember text) ts xs → IsMark mark.End end
+  class : {keyword name begin end : Token} {n : Word} {ts : List Token} {xs : List Member} → IsKey key.Class keyword → IsName text name n
+      → IsMark mark.Begin begin → IsMany (IsMember text) ts xs → IsMark mark.End end
       → IsClass text (keyword ∷ name ∷ begin ∷ (ts ++ end ∷ [])) (record { place = keyword.place; name = n; members = xs })
 
 -- class class*, where the text ends at the place
 pub data IsSpec (text : List ℕ) (end : Place) : List Token → Spec → Type 0 where
-  spec : {ts us : List Token} {x : Class} {xs : List Class} → IsClass text ts x → IsMany (IsClass text) us xs → IsSpec text end (ts ++ us) (record { classes = x ∷ xs; end = end })
+  spec : {ts us : List Token} {x : Class} {xs : List Class} → IsClass text ts x → IsMany (IsClass text) us xs
+      → IsSpec text end (ts ++ us) (record { classes = x ∷ xs; end = end })

@@ -128,7 +128,8 @@ token_at before k cs = record {
 pub data CutTo (left : List ℕ) : List ℕ → List ℕ → List Token → Type 0 where
   done : (before : List ℕ) → CutTo left before left []
   gap : (before cs rest : List ℕ) (ts : List Token) → IsGap cs rest → CutTo left (before ++ cs) rest ts → CutTo left before (cs ++ rest) ts
-  token : (k : Kind) (before cs rest : List ℕ) (ts : List Token) → IsLongest k cs rest → CutTo left (before ++ cs) rest ts → CutTo left before (cs ++ rest) (token_at before k cs ∷ ts)
+  token : (k : Kind) (before cs rest : List ℕ) (ts : List Token) → IsLongest k cs rest → CutTo left (before ++ cs) rest ts
+      → CutTo left before (cs ++ rest) (token_at before k cs ∷ ts)
 
 -- all of the others are cut
 abbrev pub Cut : List ℕ → List ℕ → List Token → Type 0

@@ -13,7 +13,7 @@ pub struct CheckedSpec {
 }
 
 impl Model for CheckedSpec {
-    ghost use Rattle.easl_model.specs.Checked.{IsChecked, IsInRange};
+    ghost use Rattle.easl_model.specs.{IsChecked, IsInRange};
     ghost use Rattle.easl_model.specs.Form.{Form};
     ghost use Rattle.easl_model.specs.contracts.form.Act as act;
     ghost use Rattle.easl_model.specs.contracts.form.Test as test;
@@ -32,9 +32,8 @@ impl Model for CheckedSpec {
 impl CheckedSpec {
     ghost use Rattle.std.specs.Prelude.{◌≡◌, ◌<◌, ◌≤◌, true, IfSome, length, slice_index, slice_get};
     ghost use Rattle.std.specs.Option.{option_map};
-    ghost use Rattle.easl_model.specs.Checked.{IsChecked, IsInRange};
-    ghost use Rattle.easl_model.specs.Form.{Form, MethodInRange, fields_of, constructor_of, field_names_of};
-    ghost use Rattle.easl_model.specs.Limits.{MethodKeepsLimits};
+    ghost use Rattle.easl_model.specs.{IsChecked, IsInRange, MethodInRange, MethodKeepsLimits, constructor_of, field_names_of, fields_of};
+    ghost use Rattle.easl_model.specs.Form.{Form};
 
     /// A specification of these parts, the classes and the methods by number. It takes no memory.
     pub fn new(classes: Vec<ClassForm>, methods: Vec<Method>) -> CheckedSpec

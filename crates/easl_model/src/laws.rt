@@ -1,5 +1,5 @@
 //! Laws on the definitions, each the contract of a function that does nothing.
-ghost use Rattle.easl_model.specs.Laws.{FormIsInRange, FormIsTyped, FormNests};
+ghost use Rattle.easl_model.specs.{FormIsInRange, FormIsTyped, FormNests};
 
 /// What the rules and the limits promise of a checked form: the form of a well-formed tree within the limits has
 /// numbers in range, and at most 1,024 statements in place.

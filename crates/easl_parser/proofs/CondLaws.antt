@@ -1,15 +1,15 @@
 -- The reader of conditions reads their grammar.
 use Rattle.std.proofs.Common.{◌≡◌, ℕ, zero, suc, Bool, true, false, List, [], ◌∷◌, ◌++◌, refl, sym, ◌∙◌, ap, subst, append-nil, arith, inl, inr, Some}
-use Rattle.easl_model.specs.Brackets.{turned, level_after}
-use Rattle.easl_model.specs.Grammar.{IsPath, named_path, no_fields, IsComparison, same, differ, IsAny, any_one, any_more, IsAlls, no_alls, next_all, IsAll, all_one, all_more, IsAtoms, no_atoms, next_atom, IsAtom, comparison, group}
-use Rattle.easl_model.specs.Lexemes.{word_of}
+use Rattle.easl_model.specs.{IsAll, IsAlls, IsAny, IsAtom, IsAtoms, IsComparison, IsPath, all_more, all_one, any_more, any_one, comparison, differ, group}
+use Rattle.easl_model.specs.{level_after, named_path, next_all, next_atom, no_alls, no_atoms, no_fields, same, turned, word_of}
 use Rattle.easl_model.specs.declared.token.Kind.{Kind}
 use Rattle.easl_model.specs.declared.token.Kind.TheVariants as kind
 use Rattle.easl_model.specs.declared.token.Mark.TheVariants as mark
 use Rattle.easl_model.specs.declared.token.Token.{Token}
 use Rattle.easl_model.specs.declared.tree.Cond.{Cond}
 use Rattle.easl_model.specs.declared.tree.Cond.TheVariants as cond
-use Rattle.cv_read.specs.Read.{Read, is_mark, nothing_of, behind_mark}
+use Rattle.cv_read.specs.{behind_mark, is_mark, nothing_of}
+use Rattle.cv_read.specs.Read.{Read}
 use Rattle.cv_read.proofs.Laws.{Lang, none, either, Front, Apart, Then, Mapped, Or, End, never, token_of, avoids_none, front_avoids, then_starts}
 use Rattle.cv_read.proofs.Levels.{Flat, mark_flat, open_opens, close_closes, even_append}
 use Rattle.cv_read.proofs.Repeats.{Star, behind_star, or_left, or_right}

@@ -2,8 +2,8 @@
 use Rattle.std.proofs.Common.{◌≡◌, ℕ, zero, suc, ◌-◌, ◌<◌, List, [], ◌∷◌, ◌++◌, map, refl, sym, ◌∙◌, ap, arith, append_assoc, append-nil}
 use Rattle.std.specs.List.{flat_map}
 use Rattle.std.specs.Prelude.{Option}
-use Rattle.easl_model.specs.Names.{codes_in, fields_in, methods_in}
-use Rattle.easl_model.specs.TreeLimits.{beyond, comes_before, excess_of_code}
+use Rattle.easl_model.specs.{beyond, codes_in, excess_of_code, fields_in, methods_in}
+use Rattle.easl_model.specs.TreeLimits.{comes_before}
 use Rattle.easl_model.specs.declared.fault.Excess.{Excess}
 use Rattle.easl_model.specs.declared.fault.Which.{Which}
 use Rattle.easl_model.specs.declared.fault.Which.TheVariants as which

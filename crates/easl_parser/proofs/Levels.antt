@@ -1,7 +1,7 @@
 -- Conditions and steps with one level less to go.
 use Rattle.std.proofs.Common.{◌≡◌, ℕ, zero, suc, ◌-◌, ◌<◌, List, refl, arith}
 use Rattle.easl_model.specs.declared.token.Token.{Token}
-use Rattle.cv_read.specs.Read.{Deep, items_at}
+use Rattle.cv_read.specs.{Deep, items_at}
 use Rattle.easl_parser.specs.Reading.{any_at, any_by, all_at, steps_at, maybe_step_at}
 
 pub any_none : (text : List ℕ) (d : ℕ) (ts : List Token) → d ≡ 0 → any_at text d ts ≡ Deep

@@ -4,9 +4,8 @@ use Rattle.std.specs.Prelude.{if◌then◌else◌}
 use Rattle.cv_lex.specs.declared.fault.TextFault.{TextFault}
 use Rattle.cv_lex.specs.declared.fault.TextFault.TheVariants.{NotUtf8, BadToken, Syntax, Limit, Memory}
 use Rattle.cv_read.specs.Answers as read
-use Rattle.easl_model.specs.Faults.{earlier}
-use Rattle.easl_model.specs.Grammar.{IsSpec}
-use Rattle.easl_model.specs.TreeLimits.{IsWithinLimits, comes_before, excess_of, first_excess}
+use Rattle.easl_model.specs.{IsSpec, IsWithinLimits, earlier, excess_of, first_excess}
+use Rattle.easl_model.specs.TreeLimits.{comes_before}
 use Rattle.easl_model.specs.declared.fault.Excess.{Excess}
 use Rattle.easl_model.specs.declared.tree.Spec.{Spec}
 use Rattle.easl_parser.specs.Answers.{SpecAnswers, OneAnswer}
@@ -34,7 +33,8 @@ none_first (x ∷ xs) e = absurd (stays (Some x) xs (λ h. cc) e)
 pub within_answers : (text : List ℕ) (tree : Spec) → read.Answers IsSpec text (Ok tree) → first_excess tree ≡ None → SpecAnswers text (Ok tree)
 within_answers text tree a e = (a, none_first (excess_of tree) e)
 
-pub beyond_answers : (text : List ℕ) (tree : Spec) (x : Excess) → read.Answers IsSpec text (Ok tree) → first_excess tree ≡ Some x → SpecAnswers text (Err (Limit x.which x.place))
+pub beyond_answers : (text : List ℕ) (tree : Spec) (x : Excess) → read.Answers IsSpec text (Ok tree) → first_excess tree ≡ Some x
+    → SpecAnswers text (Err (Limit x.which x.place))
 beyond_answers text tree x a e = inr (tree, a, e)
 
 pub fault_stays : (text : List ℕ) (e : TextFault) → read.Answers IsSpec text (Err e) → SpecAnswers text (Err e)

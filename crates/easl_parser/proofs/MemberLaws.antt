@@ -1,7 +1,8 @@
 -- The readers of clauses, returns, members, classes and specifications read their grammar.
 use Rattle.std.proofs.Common.{◌≡◌, ℕ, suc, Bool, Option, Some, None, List, [], ◌∷◌, ◌++◌, refl, sym, ◌∙◌, ap, subst, inl, inr}
-use Rattle.easl_model.specs.Grammar.{IsAny, IsValue, IsClause, clause, IsReturn, no_return, with_return, IsType, opaque_type, class_type, IsResult, no_result, some_result, IsParams, IsSteps, IsMember, field, constructor, method, IsClass, class, IsSpec, spec}
-use Rattle.easl_model.specs.Lexemes.{word_of, IsName}
+use Rattle.easl_model.specs.{IsAny, IsClass, IsClause, IsMember, IsName, IsParams, IsResult, IsReturn, IsSpec, IsSteps, IsType, IsValue, class, class_type}
+use Rattle.easl_model.specs.{clause, constructor, field, method, no_result, opaque_type, some_result, spec, with_return, word_of}
+use Rattle.easl_model.specs.Grammar.{no_return}
 use Rattle.easl_model.specs.declared.place.Place.{Place}
 use Rattle.easl_model.specs.declared.token.Key.TheVariants as key
 use Rattle.easl_model.specs.declared.token.Kind.{Kind}
@@ -19,8 +20,7 @@ use Rattle.easl_model.specs.declared.tree.Sort.TheVariants as sort
 use Rattle.easl_model.specs.declared.tree.Spec.{Spec}
 use Rattle.easl_model.specs.declared.tree.Step.{Step}
 use Rattle.easl_model.specs.declared.tree.Word.{Word}
-use Rattle.cv_read.specs.Read.{Got, ◌>>=◌, is_mark, is_key, is_name, nothing_of, place_of, mark_place_at}
-use Rattle.cv_read.specs.Types.{is_opaque, opaque_of, placed_opaque, type_starts}
+use Rattle.cv_read.specs.{Got, is_key, is_mark, is_name, is_opaque, mark_place_at, nothing_of, opaque_of, place_of, placed_opaque, type_starts, ◌>>=◌}
 use Rattle.cv_read.proofs.Laws.{Lang, Is, none, either, Front, Apart, Then, Mapped, One, Or, End, no_none, avoids_none, front_avoids, front_less, then_starts}
 use Rattle.cv_read.proofs.Levels.{mark_flat, key_flat, name_flat, begin_opens, end_closes}
 use Rattle.cv_read.proofs.Repeats.{Star, many_to, many_from, or_left, or_right}
@@ -249,7 +249,8 @@ module _ (text : List ℕ) where
       let f : z ≡ placed t.place = s.4.2 ∙ ap (constructor_of n l.0 s.0) c.3 ∙ ap placed at in
       subst (IsMember text w) (sym f) (subst (λ m. IsMember text m (placed t.place)) (sym d) (constructor i l.3 (mark_to mark.Begin b.0 b.2) s.3 (mark_to mark.End c.0 c.2)))
 
-  a_method : (s t : Token) (r : Sort) (n : Word) (u w : List Token) (z : Member) → IsResult text (s ∷ []) r → IsName text t n → MethodLang s.place r n u z → w ≡ s ∷ t ∷ u → IsMember text w z
+  a_method : (s t : Token) (r : Sort) (n : Word) (u w : List Token) (z : Member) → IsResult text (s ∷ []) r → IsName text t n
+      → MethodLang s.place r n u z → w ≡ s ∷ t ∷ u → IsMember text w z
   a_method first t r n u w z h i l e =
       let b = l.4 in
       let a = b.3 in

@@ -1,7 +1,6 @@
 -- The reader of paths reads their grammar.
 use Rattle.std.proofs.Common.{◌≡◌, ℕ, Bool, Option, Some, None, List, [], ◌∷◌, ◌++◌, refl, sym, ◌∙◌, ap, subst, inl, inr}
-use Rattle.easl_model.specs.Grammar.{IsFields, no_fields, next_field, IsPath, this_path, named_path}
-use Rattle.easl_model.specs.Lexemes.{word_of}
+use Rattle.easl_model.specs.{IsFields, IsPath, named_path, next_field, no_fields, this_path, word_of}
 use Rattle.easl_model.specs.declared.place.Place.{Place}
 use Rattle.easl_model.specs.declared.token.Key.TheVariants as key
 use Rattle.easl_model.specs.declared.token.Kind.{Kind}
@@ -10,7 +9,7 @@ use Rattle.easl_model.specs.declared.token.Mark.TheVariants as mark
 use Rattle.easl_model.specs.declared.token.Token.{Token}
 use Rattle.easl_model.specs.declared.tree.Path.{Path}
 use Rattle.easl_model.specs.declared.tree.Word.{Word}
-use Rattle.cv_read.specs.Read.{is_mark, is_key, is_name, nothing_of, place_of, name_at, behind_mark, items_at}
+use Rattle.cv_read.specs.{behind_mark, is_key, is_mark, is_name, items_at, name_at, nothing_of, place_of}
 use Rattle.cv_read.proofs.Laws.{Lang, Is, none, either, Front, Apart, One, Or, Mapped, no_none}
 use Rattle.cv_read.proofs.Levels.{mark_flat, key_flat, name_flat}
 use Rattle.cv_read.proofs.Repeats.{Star}

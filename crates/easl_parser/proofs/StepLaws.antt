@@ -1,8 +1,7 @@
 -- The readers of steps and blocks read their grammar.
 use Rattle.std.proofs.Common.{◌≡◌, ℕ, zero, suc, Bool, true, false, Option, Some, None, List, [], ◌∷◌, ◌++◌, refl, sym, ◌∙◌, ap, subst, arith, append-nil, inl, inr}
-use Rattle.easl_model.specs.Brackets.{turned, level_after}
-use Rattle.easl_model.specs.Grammar.{IsFields, no_fields, next_field, IsPath, this_path, named_path, IsComparison, IsSet, IsGuard, guard, IsStep, declare, assign, if_alone, if_else, IsBlock, block, IsSteps, no_steps, next_step}
-use Rattle.easl_model.specs.Lexemes.{word_of, IsName}
+use Rattle.easl_model.specs.{IsBlock, IsComparison, IsFields, IsGuard, IsName, IsPath, IsSet, IsStep, IsSteps, assign, block, declare, guard, if_alone}
+use Rattle.easl_model.specs.{if_else, level_after, named_path, next_field, next_step, no_fields, no_steps, this_path, turned, word_of}
 use Rattle.easl_model.specs.declared.place.Place.{Place}
 use Rattle.easl_model.specs.declared.token.Key.TheVariants as key
 use Rattle.easl_model.specs.declared.token.Kind.{Kind}
@@ -15,7 +14,8 @@ use Rattle.easl_model.specs.declared.tree.Step.{Step}
 use Rattle.easl_model.specs.declared.tree.Step.TheVariants as step
 use Rattle.easl_model.specs.declared.tree.Value.{Value}
 use Rattle.easl_model.specs.declared.tree.Word.{Word}
-use Rattle.cv_read.specs.Read.{Read, is_mark, is_key, is_name, nothing_of, place_of}
+use Rattle.cv_read.specs.{is_key, is_mark, is_name, nothing_of, place_of}
+use Rattle.cv_read.specs.Read.{Read}
 use Rattle.cv_read.proofs.Laws.{Lang, Is, none, either, Front, Apart, Then, Mapped, Or, End, never, avoids_none, front_avoids, front_append, front_less}
 use Rattle.cv_read.proofs.Levels.{key_flat, name_flat, begin_opens, end_closes, even_append}
 use Rattle.cv_read.proofs.Repeats.{Star, or_left, or_right}
@@ -99,7 +99,8 @@ module _ (text : List ℕ) where
           let p : IsPath text (h.0 ∷ l.1) l.0 = subst (IsPath text (h.0 ∷ l.1)) (sym l.3.2) (named_path (name_to text h.0 (word_of text h.0) h.2 refl) l.3.1) in
           subst (IsStep text w) (sym l.4.2) (subst (λ m. IsStep text m (step.Assign l.0 l.4.0)) (sym e) (assign p l.4.1))
 
-  declare_from : (ts : List Token) (t u : Token) (c n : Word) (y : Value) → IsName text t c → IsName text u n → IsSet text ts y → SimpleLang (t ∷ u ∷ ts) (step.Declare c n y)
+  declare_from : (ts : List Token) (t u : Token) (c n : Word) (y : Value) → IsName text t c → IsName text u n → IsSet text ts y
+      → SimpleLang (t ∷ u ∷ ts) (step.Declare c n y)
   declare_from ts t u c n y a b h =
       let e : ◌≡◌ {A = Step} (step.Declare c n y) (step.Declare (word_of text t) (word_of text u) y) = ap (λ (m : Word). step.Declare m n y) a.word ∙ ap (λ (m : Word). step.Declare (word_of text t) m y) b.word in
       inr (t, u ∷ ts, name_from text t c a, inl (u, ts, name_from text u n b, (y, h, e), refl), refl)
@@ -141,7 +142,8 @@ module _ (text : List ℕ) where
   block_from : (w : List Token) (xs : List Step) → IsBlock text w xs → Braces (IsSteps text) w xs
   block_from w xs (block {begin = b} {end = e} {ts = ts} i h j) = (b, ts ++ e ∷ [], mark_from mark.Begin b i, (ts, e, h, mark_from mark.End e j, refl), refl)
 
-  block_within : (steps : List Token → Read (List Step)) (G : Kind → Bool) (d : ℕ) → ReadsWithin steps (IsSteps text) StepsGo d → ReadsWithin (block_by steps) (IsBlock text) G (suc d)
+  block_within : (steps : List Token → Read (List Step)) (G : Kind → Bool) (d : ℕ) → ReadsWithin steps (IsSteps text) StepsGo d
+      → ReadsWithin (block_by steps) (IsBlock text) G (suc d)
   block_within steps G d within = respell_within block_to block_from (braces_within G (λ g. g) within)
 
   -- steps, over what reads a block
@@ -188,7 +190,8 @@ module _ (text : List ℕ) where
       by (inl l) = front_less (is_key key.If) step_starts (λ k f. or_left (is_key key.If k) (path_starts k) f) w (led_starts (is_key key.If) place_of IfTail w x l)
       by (inr l) = front_less path_starts step_starts (λ k f. or_right (is_key key.If k) (path_starts k) f) w (simple_begins w x l)
 
-  step_within : (inner : List Token → Read (List Step)) (d : ℕ) → ((G : Kind → Bool) → ReadsWithin inner (IsBlock text) G d) → ReadsWithin (step_by text inner) (IsStep text) (is_key key.Else) d
+  step_within : (inner : List Token → Read (List Step)) (d : ℕ) → ((G : Kind → Bool) → ReadsWithin inner (IsBlock text) G d)
+      → ReadsWithin (step_by text inner) (IsStep text) (is_key key.Else) d
   unfolding if_by
   step_within inner d within = respell_within step_to step_from
       (two_ways_within (is_key key.If) path_starts (led_starts (is_key key.If) place_of IfTail) simple_begins simple_no_if

@@ -2,16 +2,13 @@
 use Rattle.std.proofs.Common.{ℕ, suc, List, length, Ok, Err, Result, arith}
 use Rattle.cv_lex.specs.Form as lex
 use Rattle.cv_lex.specs.declared.fault.TextFault.{TextFault}
-use Rattle.easl_model.specs.Brackets.{Shallow}
-use Rattle.easl_model.specs.Grammar.{IsSpec}
-use Rattle.easl_model.specs.Spelling.{OneTree}
+use Rattle.easl_model.specs.{IsSpec, OneTree, Shallow}
 use Rattle.easl_model.specs.declared.place.Place.{Place}
 use Rattle.easl_model.specs.declared.token.Token.{Token}
 use Rattle.easl_model.specs.declared.token.Tokens.{Tokens}
 use Rattle.easl_model.specs.declared.tree.Spec.{Spec}
-use Rattle.cv_read.specs.Answers.{Answers, OneAnswer, FindsTree}
-use Rattle.cv_read.specs.Faults.{placed, Nests}
-use Rattle.cv_read.specs.Read.{GivesWhole, whole_at}
+use Rattle.cv_read.specs.{FindsTree, GivesWhole, Nests, OneAnswer, placed, whole_at}
+use Rattle.cv_read.specs.Answers.{Answers}
 use Rattle.cv_read.specs.declared.fault.ReadFault.{ReadFault}
 use Rattle.cv_read.proofs.Answered as answered
 use Rattle.easl_parser.specs.Reading.{spec_at}
@@ -24,7 +21,8 @@ one_tree text end ts =
     answered.one_spelling (spec_at text (length ts) end) (IsSpec text end) SpecGoes (suc (suc (length ts))) ts (within.reads) (within.bound) (omega arith)
 
 -- from the reading to what the grammar says
-pub found : (text : List ℕ) (end : Place) (ts : List Token) (r : Result Spec ReadFault) → Shallow ts → GivesWhole r (whole_at (spec_at text 63 end) ts) → FindsTree IsSpec text end ts r
+pub found : (text : List ℕ) (end : Place) (ts : List Token) (r : Result Spec ReadFault) → Shallow ts
+    → GivesWhole r (whole_at (spec_at text 63 end) ts) → FindsTree IsSpec text end ts r
 found = answered.found IsSpec (λ text. spec_at text 63) SpecGoes (λ text end. (spec_within text 63 end).reads) (λ text end. (spec_within text 63 end).bound)
 
 pub too_deep : (text : List ℕ) (end : Place) (ts : List Token) (e : ReadFault) → Nests ts (Err e) → FindsTree IsSpec text end ts (Err e)
@@ -37,7 +35,8 @@ no_tokens = answered.no_tokens IsSpec
 pub tree_answers : (text : List ℕ) (x : Tokens) (s : Spec) → lex.Answers text (Ok x) → FindsTree IsSpec text x.end x.list (Ok s) → Answers IsSpec text (Ok s)
 tree_answers = answered.tree_answers IsSpec
 
-pub fault_answers : (text : List ℕ) (x : Tokens) (e : ReadFault) → lex.Answers text (Ok x) → FindsTree IsSpec text x.end x.list (Err e) → Answers IsSpec text (Err (placed x e))
+pub fault_answers : (text : List ℕ) (x : Tokens) (e : ReadFault) → lex.Answers text (Ok x) → FindsTree IsSpec text x.end x.list (Err e)
+    → Answers IsSpec text (Err (placed x e))
 fault_answers = answered.fault_answers IsSpec
 
 pub one_spelled : OneAnswer IsSpec

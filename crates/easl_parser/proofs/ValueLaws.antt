@@ -1,7 +1,6 @@
 -- The readers of arguments and values read their grammar.
 use Rattle.std.proofs.Common.{◌≡◌, ℕ, Bool, List, [], ◌∷◌, ◌++◌, refl, sym, ◌∙◌, ap, subst, inl, inr}
-use Rattle.easl_model.specs.Grammar.{IsPath, IsListed, IsArg, path_arg, literal_arg, IsValue, path_value, new_value, IsSet, set}
-use Rattle.easl_model.specs.Lexemes.{is_literal, word_of}
+use Rattle.easl_model.specs.{IsArg, IsListed, IsPath, IsSet, IsValue, is_literal, literal_arg, new_value, path_arg, path_value, set, word_of}
 use Rattle.easl_model.specs.declared.place.Place.{Place}
 use Rattle.easl_model.specs.declared.token.Key.TheVariants as key
 use Rattle.easl_model.specs.declared.token.Kind.{Kind}
@@ -13,7 +12,7 @@ use Rattle.easl_model.specs.declared.tree.Arg.TheVariants as arg
 use Rattle.easl_model.specs.declared.tree.Value.{Value}
 use Rattle.easl_model.specs.declared.tree.Value.TheVariants as value
 use Rattle.easl_model.specs.declared.tree.Word.{Word}
-use Rattle.cv_read.specs.Read.{is_mark, is_key, is_name, nothing_of, place_of}
+use Rattle.cv_read.specs.{is_key, is_mark, is_name, nothing_of, place_of}
 use Rattle.cv_read.proofs.Laws.{Lang, Front, Apart, Mapped, Or, End, front_less}
 use Rattle.cv_read.proofs.Levels.{mark_flat, key_flat, name_flat, literal_flat}
 use Rattle.cv_read.proofs.Repeats.{or_left, or_right}

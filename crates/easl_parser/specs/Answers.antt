@@ -3,8 +3,7 @@ use Rattle.std.specs.Prelude.{◌≡◌, ◌≢◌, ◌⊎◌, ℕ, List, Some, 
 use Rattle.cv_lex.specs.declared.fault.TextFault.{TextFault}
 use Rattle.cv_lex.specs.declared.fault.TextFault.TheVariants.{Limit, Memory}
 use Rattle.cv_read.specs.Answers as read
-use Rattle.easl_model.specs.Grammar.{IsSpec}
-use Rattle.easl_model.specs.TreeLimits.{IsWithinLimits, first_excess}
+use Rattle.easl_model.specs.{IsSpec, IsWithinLimits, first_excess}
 use Rattle.easl_model.specs.declared.fault.Which.{Which}
 use Rattle.easl_model.specs.declared.place.Place.{Place}
 use Rattle.easl_model.specs.declared.tree.Spec.{Spec}

@@ -1,6 +1,6 @@
 -- How a specification is read from the left. Where rules begin alike, the common part is read first.
 use Rattle.std.specs.Prelude.{ℕ, zero, suc, Bool, true, false, ◌||◌, Option, Some, None, List, [], ◌∷◌}
-use Rattle.easl_model.specs.Lexemes.{is_literal}
+use Rattle.easl_model.specs.{is_literal}
 use Rattle.easl_model.specs.declared.place.Place.{Place}
 use Rattle.easl_model.specs.declared.token.Key.TheVariants as key
 use Rattle.easl_model.specs.declared.token.Kind.{Kind}
@@ -24,8 +24,9 @@ use Rattle.easl_model.specs.declared.tree.Step.TheVariants as step
 use Rattle.easl_model.specs.declared.tree.Value.{Value}
 use Rattle.easl_model.specs.declared.tree.Value.TheVariants as value
 use Rattle.easl_model.specs.declared.tree.Word.{Word}
-use Rattle.cv_read.specs.Read.{Read, Got, Deep, ◌>>=◌, take_at, choose, is_mark, is_key, is_name, mark_at, mark_place_at, key_place_at, name_at, literal_at, behind_mark, behind_key, before_mark, step_at, items_at, listed_at, parens_at}
-use Rattle.cv_read.specs.Types.{is_opaque, placed_opaque, type_starts, params_at}
+use Rattle.cv_read.specs.{Deep, Got, before_mark, behind_key, behind_mark, choose, is_key, is_mark, is_name, is_opaque, items_at, key_place_at, listed_at}
+use Rattle.cv_read.specs.{literal_at, mark_at, mark_place_at, name_at, params_at, parens_at, placed_opaque, step_at, take_at, type_starts, ◌>>=◌}
+use Rattle.cv_read.specs.Read.{Read}
 
 -- paths
 abbrev pub field_at : List ℕ → List Token → Read (Option Word)

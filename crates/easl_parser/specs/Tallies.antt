@@ -1,7 +1,7 @@
 -- Items that a limit counts, and the first that is beyond one.
 use Rattle.std.specs.Prelude.{ℕ, zero, suc, List, Option}
 use Rattle.std.specs.List.{fold}
-use Rattle.easl_model.specs.Faults.{earlier, first_with}
+use Rattle.easl_model.specs.{earlier, first_with}
 use Rattle.easl_model.specs.TreeLimits.{comes_before}
 use Rattle.easl_model.specs.declared.fault.Excess.{Excess}
 use Rattle.easl_model.specs.declared.fault.Which.{Which}

@@ -1,6 +1,6 @@
 //! The clauses of a method, and its return.
 ghost use Rattle.std.specs.Prelude.{◌≡◌, ◌<◌, ◌≤◌, length, IfOk, IsSome};
-ghost use Rattle.cv_read.specs.Read.{Gives};
+ghost use Rattle.cv_read.specs.{Gives};
 ghost use Rattle.easl_parser.specs.Reading.{condition_at, clause_behind, maybe_clause_at, clauses_at, return_behind, return_at};
 
 use crate::conditions::any;

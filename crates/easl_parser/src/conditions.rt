@@ -3,7 +3,7 @@
 //! refused before, so it does not run out.
 ghost use Rattle.std.specs.Prelude.{◌≡◌, ◌<◌, ◌≤◌, false, length, IfOk, IsSome};
 ghost use Rattle.easl_model.specs.declared.token.Mark.TheVariants as mark;
-ghost use Rattle.cv_read.specs.Read.{Gives, Got, behind_mark, before_mark, items_at};
+ghost use Rattle.cv_read.specs.{Gives, Got, before_mark, behind_mark, items_at};
 ghost use Rattle.easl_parser.specs.Reading.{sign_at, compare, comparison_at, guard_at, and_by, or_by, atom_at, all_at, any_by, any_at};
 ghost use Rattle.easl_parser.specs.Reading as reading;
 

@@ -1,9 +1,7 @@
 //! The first of what a tree has beyond the stated limits.
 ghost use Rattle.std.specs.Prelude.{◌≡◌, [], ◌∷◌, ◌++◌, map, option_to_list};
 ghost use Rattle.std.specs.List.{flat_map};
-ghost use Rattle.easl_model.specs.Clauses.{clause_of, clauses};
-ghost use Rattle.easl_model.specs.Names.{codes_in, fields_in, methods_in};
-ghost use Rattle.easl_model.specs.Steps.{block_of, written_of};
+ghost use Rattle.easl_model.specs.{block_of, clause_of, clauses, codes_in, fields_in, methods_in, written_of};
 ghost use Rattle.easl_model.specs.TreeLimits as limits;
 ghost use Rattle.easl_model.specs.declared.fault.Which.TheVariants as counts;
 ghost use Rattle.easl_parser.specs.Tallies.{first_from, tally_of};

@@ -1,7 +1,7 @@
 //! Classes and their members. Where rules begin alike, the common part is read first.
 ghost use Rattle.std.specs.Prelude.{◌≡◌, ◌≢◌, ◌<◌, ◌≤◌, length, IfErr, IfOk, IsSome};
 ghost use Rattle.easl_model.specs.declared.token.Key.TheVariants as key;
-ghost use Rattle.cv_read.specs.Read.{Gives, begins, key_place_at};
+ghost use Rattle.cv_read.specs.{Gives, begins, key_place_at};
 ghost use Rattle.cv_read.specs.declared.fault.ReadFault.TheVariants.{Memory};
 ghost use Rattle.easl_parser.specs.Reading.{constructor_at, method_at, behind_two, two_names_at, behind_one, named_member_at, behind_result, opaque_method_at, plain_method_at, member_at, member_starts, maybe_member_at, members_at, class_at};
 

@@ -2,7 +2,7 @@
 ghost use Rattle.std.specs.Prelude.{◌≡◌, ◌<◌, ◌≤◌, Some, None, length, IfOk, IsSome};
 ghost use Rattle.easl_model.specs.declared.token.Mark.TheVariants as mark;
 ghost use Rattle.easl_model.specs.declared.token.Key.TheVariants as key;
-ghost use Rattle.cv_read.specs.Read.{Gives, begins, is_mark, behind_mark, step_at, items_at, commas_at, more_at, listed_at, next_at};
+ghost use Rattle.cv_read.specs.{Gives, begins, behind_mark, commas_at, is_mark, items_at, listed_at, more_at, next_at, step_at};
 ghost use Rattle.easl_parser.specs.Reading.{field_at, path_of, path_at, named_path_at, path_starts, arg_starts, literal_arg_at, path_arg_at, arg_at, args_at, new_behind, path_value_at, value_at};
 
 use cv_read::{

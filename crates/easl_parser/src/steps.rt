@@ -1,7 +1,7 @@
 //! The steps of a body, conditionals among them. `depth` is how many lists of steps may still stand in one another;
 //! texts with too many open brackets are refused before, so it does not run out.
 ghost use Rattle.std.specs.Prelude.{◌≡◌, ◌<◌, ◌≤◌, Some, length, IfOk, IsSome};
-ghost use Rattle.cv_read.specs.Read.{Gives, begins, items_at};
+ghost use Rattle.cv_read.specs.{Gives, begins, items_at};
 ghost use Rattle.easl_parser.specs.Reading.{set_at, assign_at, declare_at, step_behind, named_step_at, simple_at, end_if_by, if_by, step_starts, steps_at, block_at, step_read, maybe_step_at};
 
 use crate::conditions::guard;

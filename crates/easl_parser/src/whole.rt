@@ -1,9 +1,8 @@
 //! A whole specification: its tokens, its brackets, its syntax, its limits.
 ghost use Rattle.std.specs.Prelude.{◌≡◌, ◌<◌, ◌≤◌, length, IfOk, IsSome};
-ghost use Rattle.cv_read.specs.Answers.{Answers, FindsTree};
-ghost use Rattle.cv_read.specs.Read.{Gives, GivesWhole, whole_at};
-ghost use Rattle.easl_model.specs.Grammar.{IsSpec};
-ghost use Rattle.easl_model.specs.Spelling.{OneTree};
+ghost use Rattle.cv_read.specs.{FindsTree, Gives, GivesWhole, whole_at};
+ghost use Rattle.cv_read.specs.Answers.{Answers};
+ghost use Rattle.easl_model.specs.{IsSpec, OneTree};
 ghost use Rattle.easl_parser.specs.Answers.{SpecAnswers, OneAnswer};
 ghost use Rattle.easl_parser.specs.Reading.{maybe_class_at, classes_at, spec_at};
 

@@ -1,11 +1,10 @@
 -- The lines of a conditional, put on a page one part after another.
 use Rattle.std.proofs.Common.{◌≡◌, ℕ, ◌+◌, Bool, List, sym, ap, ◌∙◌}
-use Rattle.cv_layout.specs.Layout.{line}
-use Rattle.cv_layout.specs.Page.{after_lines}
+use Rattle.cv_layout.specs.{after_lines, line}
 use Rattle.cv_layout.specs.declared.page.Page.{Page}
 use Rattle.cv_layout.proofs.After.{lines_append}
-use Rattle.easl_model.specs.Clauses.{Clause, clause_of}
-use Rattle.easl_model.specs.Steps.{Block, If, written_of, block_of}
+use Rattle.easl_model.specs.{Block, Clause, block_of, clause_of, written_of}
+use Rattle.easl_model.specs.Steps.{If}
 use Rattle.easl_model.specs.declared.place.Place.{Place}
 use Rattle.easl_model.specs.declared.tree.Cond.{Cond}
 use Rattle.easl_model.specs.declared.tree.Step.{Step}

@@ -1,9 +1,9 @@
 -- Values and steps that are printed and read again are the same, places aside.
 use Rattle.std.proofs.Common.{◌≡◌, ℕ, Bool, true, false, List, [], ◌∷◌, ◌++◌, append-nil, map, refl, sym, ap, ◌∙◌, subst}
-use Rattle.easl_model.specs.Grammar.{IsArg, path_arg, literal_arg, IsPath, IsValue, path_value, new_value, IsSet, set, IsGuard, guard, IsStep, declare, assign, if_alone, if_else, IsBlock, block, IsSteps, no_steps, next_step}
-use Rattle.easl_model.specs.Clauses.{Clause, clause_of}
-use Rattle.easl_model.specs.Lexemes.{word_of, IsMark, IsName}
-use Rattle.easl_model.specs.Steps.{Written, Block, Declare, Assign, If, written_of, block_of, ◌▸◌}
+use Rattle.easl_model.specs.{Assign, Block, Clause, Declare, IsArg, IsBlock, IsGuard, IsMark, IsName, IsPath, IsSet, IsStep, IsSteps, IsValue, Written}
+use Rattle.easl_model.specs.{assign, block, block_of, clause_of, declare, guard, if_alone, if_else, literal_arg, new_value, next_step, no_steps, path_arg}
+use Rattle.easl_model.specs.{path_value, set, word_of, written_of}
+use Rattle.easl_model.specs.Steps.{If, ◌▸◌}
 use Rattle.easl_model.specs.Steps as steps
 use Rattle.easl_model.specs.declared.place.Place.{Place}
 use Rattle.easl_model.specs.declared.token.Key.TheVariants as keyword
@@ -18,8 +18,7 @@ use Rattle.easl_model.specs.declared.tree.Step.TheVariants as step
 use Rattle.easl_model.specs.declared.tree.Value.{Value}
 use Rattle.easl_model.specs.declared.tree.Value.TheVariants as value
 use Rattle.easl_model.specs.declared.tree.Word.{Word}
-use Rattle.cv_layout.specs.Tokens.{AreOf}
-use Rattle.cv_layout.specs.Layout.{Lexeme, key, mark, parens}
+use Rattle.cv_layout.specs.{AreOf, Lexeme, bare_word, key, mark, named, nowhere, parens}
 use Rattle.easl_print.specs.Bare.{bare_path, bare, bare_arg, bare_value, bare_step, bare_block, bare_steps}
 use Rattle.easl_print.specs.Lines.{path, condition, argument, arguments, value, ended}
 use Rattle.easl_print.specs.Lines as lines
@@ -30,7 +29,6 @@ use Rattle.cv_layout.proofs.ListPrints.{listed_print}
 use Rattle.cv_layout.proofs.Printed.{AreWritten, Prints}
 use Rattle.cv_layout.proofs.Single.{is_mark, is_key, is_name, is_literal_again, mark_proper, key_proper, name_proper, literal_proper, same_word}
 use Rattle.cv_layout.proofs.Splits.{all_front, all_back, all_both, split, headed, ending}
-use Rattle.cv_layout.specs.Words.{named, nowhere, bare_word}
 
 module _ (text : List ℕ) where
   pub arg_print : (ts : List Token) (x : Arg) → AreWritten text ts → IsArg text ts x → Prints IsArg bare_arg (bare_arg x) (argument x)

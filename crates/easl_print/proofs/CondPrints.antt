@@ -1,11 +1,11 @@
 -- A condition that is printed and read again is the same one, places aside.
 use Rattle.std.specs.Str.{all_scalars}
 use Rattle.std.proofs.Common.{◌≡◌, ℕ, true, ◌||◌, List, [], ◌∷◌, ◌++◌, Option, Some, None, map, refl, sym, ap, ◌∙◌, subst}
-use Rattle.easl_model.specs.Clauses.{Clause, Clauses, clause_of, clauses, none, more}
+use Rattle.easl_model.specs.{Clause, IsAll, IsAlls, IsAny, IsAtom, IsAtoms, IsComparison, IsFields, IsMark, IsPath, all_more, all_one, any_more, any_one}
+use Rattle.easl_model.specs.{clause_of, clauses, comparison, differ, group, mark_text, more, named_path, next_all, next_atom, next_field, no_alls, no_atoms}
+use Rattle.easl_model.specs.{no_fields, same, this_path, word_of}
+use Rattle.easl_model.specs.Clauses.{Clauses, none}
 use Rattle.easl_model.specs.Clauses as written
-use Rattle.easl_model.specs.Grammar.{IsFields, no_fields, next_field, IsPath, this_path, named_path, IsAny, any_one, any_more, IsAlls, no_alls, next_all, IsAll, all_one, all_more, IsAtoms, no_atoms, next_atom, IsAtom, comparison, group, IsComparison, same, differ}
-use Rattle.easl_model.specs.Lexemes.{word_of, IsMark}
-use Rattle.easl_model.specs.Tokens.{mark_text}
 use Rattle.easl_model.specs.declared.token.Key.TheVariants as keyword
 use Rattle.easl_model.specs.declared.token.Mark.{Mark}
 use Rattle.easl_model.specs.declared.token.Mark.TheVariants as sign
@@ -14,7 +14,7 @@ use Rattle.easl_model.specs.declared.tree.Cond.{Cond}
 use Rattle.easl_model.specs.declared.tree.Cond.TheVariants as cond
 use Rattle.easl_model.specs.declared.tree.Path.{Path}
 use Rattle.easl_model.specs.declared.tree.Word.{Word}
-use Rattle.cv_layout.specs.Layout.{Lexeme, key, mark, behind, parens}
+use Rattle.cv_layout.specs.{Lexeme, bare_word, behind, key, mark, named, nowhere, parens}
 use Rattle.easl_print.specs.Bare.{bare_path, bare, bare_all}
 use Rattle.easl_print.specs.Lines.{fields, path, condition, in_all, in_any, is_any, is_all, parens_where}
 use Rattle.easl_print.proofs.PlainSteps.{same_is, differ_is, all_is, any_is}
@@ -22,7 +22,6 @@ use Rattle.cv_layout.proofs.Enclosed.{enclosed}
 use Rattle.cv_layout.proofs.Printed.{AreWritten, Prints}
 use Rattle.cv_layout.proofs.Single.{is_mark, is_key, is_name, mark_proper, key_proper, name_proper, same_word}
 use Rattle.cv_layout.proofs.Splits.{all_front, all_back, all_both, split, headed, ending}
-use Rattle.cv_layout.specs.Words.{named, nowhere, bare_word}
 
 -- places of paths aside
 abbrev path_of : Option Word → List Word → Path

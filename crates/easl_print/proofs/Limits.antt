@@ -3,12 +3,14 @@ use Rattle.std.proofs.Common.{◌≡◌, ℕ, zero, suc, List, [], ◌∷◌, �
 use Rattle.std.specs.Prelude.{option_to_list}
 use Rattle.std.specs.List.{flat_map}
 use Rattle.std.specs.Option.{option_map}
-use Rattle.easl_model.specs.Clauses.{Clause, Clauses, clause_of, none, more}
+use Rattle.easl_model.specs.{Assign, Block, Clause, Declare, IsWithinLimits, Written, beyond, block_of, clause_of, codes_in, comparisons_in, comparisons_of}
+use Rattle.easl_model.specs.{conditionals_at, conditionals_in, excess_at, excess_in, excess_of, excess_of_argument, excess_of_class, excess_of_clause}
+use Rattle.easl_model.specs.{excess_of_code, excess_of_condition, excess_of_path, excess_of_value, fields_in, methods_in, more, paths_in, paths_of}
+use Rattle.easl_model.specs.{statements_at, statements_in}
+use Rattle.easl_model.specs.Clauses.{Clauses, none}
 use Rattle.easl_model.specs.Clauses as written
-use Rattle.easl_model.specs.Names.{codes_in, fields_in, methods_in}
-use Rattle.easl_model.specs.Steps.{Block, Written, Declare, Assign, If, block_of, ◌▸◌}
+use Rattle.easl_model.specs.Steps.{If, ◌▸◌}
 use Rattle.easl_model.specs.Steps as steps
-use Rattle.easl_model.specs.TreeLimits.{beyond, excess_of_path, comparisons_of, comparisons_in, paths_of, paths_in, excess_of_condition, excess_of_clause, excess_of_argument, excess_of_value, statements_at, statements_in, conditionals_at, conditionals_in, excess_at, excess_in, excess_of_code, excess_of_class, excess_of, IsWithinLimits}
 use Rattle.easl_model.specs.declared.fault.Excess.{Excess}
 use Rattle.easl_model.specs.declared.fault.Which.{Which}
 use Rattle.easl_model.specs.declared.fault.Which.TheVariants as which
@@ -26,7 +28,7 @@ use Rattle.easl_model.specs.declared.tree.Spec.{Spec}
 use Rattle.easl_model.specs.declared.tree.Value.{Value}
 use Rattle.easl_model.specs.declared.tree.Value.TheVariants as value
 use Rattle.easl_print.specs.Bare.{Code, Member, Field, Constructor, Method, Class, bare_path, bare, bare_all, bare_arg, bare_value, bare_step, bare_block, bare_clause, bare_return, bare_param, bare_code, bare_member, bare_class, bare_spec}
-use Rattle.cv_layout.specs.Words.{nowhere, bare_word}
+use Rattle.cv_layout.specs.{bare_word, nowhere}
 
 -- an excess with its place aside
 abbrev moved : Excess → Excess

@@ -3,11 +3,10 @@ use Rattle.std.proofs.Common.{◌≡◌, ℕ, true, List, [], ◌∷◌, ◌++�
 use Rattle.std.specs.List.{AllByRecursion}
 use Rattle.std.specs.Option.{option_map}
 use Rattle.std.specs.Str.{all_scalars}
-use Rattle.easl_model.specs.Clauses.{Clause, clause_of}
-use Rattle.easl_model.specs.Grammar.{IsMany, IsClause, clause, IsReturn, no_return, with_return, opaque_key, IsType, opaque_type, class_type, IsResult, no_result, some_result, IsParam, param, IsParams, params, IsMember, field, constructor, method, IsClass, class, IsSpec, spec}
-use Rattle.easl_model.specs.Lexemes.{word_of, IsMark, IsKey}
-use Rattle.easl_model.specs.Steps.{Block, block_of}
-use Rattle.easl_model.specs.Tokens.{key_text}
+use Rattle.easl_model.specs.{Block, Clause, IsClass, IsClause, IsKey, IsMany, IsMark, IsMember, IsParam, IsParams, IsResult, IsReturn, IsSpec, IsType}
+use Rattle.easl_model.specs.{block_of, class, class_type, clause, clause_of, constructor, field, key_text, method, no_result, opaque_key, opaque_type, param}
+use Rattle.easl_model.specs.{params, some_result, spec, with_return, word_of}
+use Rattle.easl_model.specs.Grammar.{no_return}
 use Rattle.easl_model.specs.declared.place.Place.{Place}
 use Rattle.easl_model.specs.declared.token.Key.TheVariants as keyword
 use Rattle.easl_model.specs.declared.token.Mark.TheVariants as sign
@@ -26,8 +25,7 @@ use Rattle.easl_model.specs.declared.tree.Sort.TheVariants as sorts
 use Rattle.easl_model.specs.declared.tree.Spec.{Spec}
 use Rattle.easl_model.specs.declared.tree.Value.{Value}
 use Rattle.easl_model.specs.declared.tree.Word.{Word}
-use Rattle.cv_layout.specs.Layout.{Lexeme, key, mark, separated}
-use Rattle.cv_layout.specs.Tokens.{IsProper, AreOf}
+use Rattle.cv_layout.specs.{AreOf, IsProper, Lexeme, bare_word, key, mark, named, nowhere, separated}
 use Rattle.easl_print.specs.Bare.{bare_value, bare_steps, bare_clause, bare_return, bare_sort, bare_param, bare_code, bare_member, bare_class, bare_spec}
 use Rattle.easl_print.specs.Bare as plain
 use Rattle.easl_print.specs.Lines.{condition, sort, ended}
@@ -39,7 +37,6 @@ use Rattle.cv_layout.proofs.ListPrints.{listed_print, many_print}
 use Rattle.cv_layout.proofs.Printed.{AreWritten, Prints}
 use Rattle.cv_layout.proofs.Single.{is_mark, is_key, is_name, mark_proper, key_proper, name_proper, same_word}
 use Rattle.cv_layout.proofs.Splits.{all_front, all_back, all_both, split, headed, ending, alone}
-use Rattle.cv_layout.specs.Words.{named, nowhere, bare_word}
 
 -- the tokens of lines
 abbrev param_of : Sort → Word → Param

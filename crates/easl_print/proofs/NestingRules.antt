@@ -1,9 +1,14 @@
 -- Each rule prints what nests no deeper than the tokens that it read.
 use Rattle.std.proofs.Common.{◌≡◌, ℕ, Bool, true, false, ◌||◌, List, [], ◌∷◌, ◌++◌, Option, Some, None, map, flat_map, append_assoc, append-nil, refl, sym, ap, ◌∙◌, subst}
-use Rattle.easl_model.specs.Clauses.{Clause, Clauses, clause_of, clauses, none, more}
+use Rattle.easl_model.specs.{Clause, IsAll, IsAlls, IsAny, IsArg, IsAtom, IsAtoms, IsBlock, IsClass, IsClause, IsComparison, IsFields, IsGuard, IsMember}
+use Rattle.easl_model.specs.{IsParam, IsParams, IsPath, IsResult, IsReturn, IsSet, IsSpec, IsStep, IsSteps, IsType, IsValue, Written, all_more, all_one}
+use Rattle.easl_model.specs.{any_more, any_one, assign, block, block_of, class, class_type, clause, clause_of, clauses, comparison, constructor, declare}
+use Rattle.easl_model.specs.{differ, field, group, guard, if_alone, if_else, literal_arg, method, more, named_path, new_value, next_all, next_atom}
+use Rattle.easl_model.specs.{next_field, next_step, no_alls, no_atoms, no_fields, no_result, no_steps, opaque_key, opaque_type, param, params, path_arg}
+use Rattle.easl_model.specs.{path_value, same, set, some_result, spec, this_path, with_return, written_of}
+use Rattle.easl_model.specs.Clauses.{Clauses, none}
 use Rattle.easl_model.specs.Clauses as written
-use Rattle.easl_model.specs.Grammar.{IsFields, no_fields, next_field, IsPath, this_path, named_path, IsAny, any_one, any_more, IsAlls, no_alls, next_all, IsAll, all_one, all_more, IsAtoms, no_atoms, next_atom, IsAtom, comparison, group, IsComparison, same, differ, IsArg, path_arg, literal_arg, IsValue, path_value, new_value, IsSet, set, IsGuard, guard, IsStep, declare, assign, if_alone, if_else, IsBlock, block, IsSteps, no_steps, next_step, IsClause, clause, IsReturn, no_return, with_return, opaque_key, IsType, opaque_type, class_type, IsResult, no_result, some_result, IsParam, param, IsParams, params, IsMember, field, constructor, method, IsClass, class, IsSpec, spec}
-use Rattle.easl_model.specs.Steps.{Written, written_of, block_of}
+use Rattle.easl_model.specs.Grammar.{no_return}
 use Rattle.easl_model.specs.declared.place.Place.{Place}
 use Rattle.easl_model.specs.declared.token.Key.TheVariants as keyword
 use Rattle.easl_model.specs.declared.token.Mark.TheVariants as sign
@@ -21,7 +26,7 @@ use Rattle.easl_model.specs.declared.tree.Spec.{Spec}
 use Rattle.easl_model.specs.declared.tree.Step.{Step}
 use Rattle.easl_model.specs.declared.tree.Value.{Value}
 use Rattle.easl_model.specs.declared.tree.Word.{Word}
-use Rattle.cv_layout.specs.Layout.{Lexeme, key, mark, behind, parens}
+use Rattle.cv_layout.specs.{Lexeme, behind, key, mark, named, parens}
 use Rattle.easl_print.specs.Lines.{head, fields, path, is_any, is_all, parens_where, condition, in_all, in_any, argument, arguments, value, sort}
 use Rattle.easl_print.specs.Lines as lines
 use Rattle.easl_print.proofs.BodyPrints.{brace, step_tokens, block_tokens}
@@ -31,7 +36,6 @@ use Rattle.cv_layout.proofs.ListNests.{then, listed_nest, many_nest, literal_nes
 use Rattle.cv_layout.proofs.Nesting.{Nests, level_of, level_append, nests_nothing, nests_both, nests_key, nests_mark, nests_name, nests_parens, nests_braces, nests_loose, nests_bare}
 use Rattle.cv_layout.proofs.Printed.{AreWritten}
 use Rattle.cv_layout.proofs.Splits.{all_front, all_back}
-use Rattle.cv_layout.specs.Words.{named}
 
 abbrev StepNests : List Token → Written → Type 0
 StepNests ts w = Nests ts (step_tokens w)

@@ -1,8 +1,8 @@
 -- What the plain tree of each kind of condition and of step is.
 use Rattle.std.proofs.Common.{◌≡◌, Bool, List, map, ap, sym, ◌∙◌}
-use Rattle.easl_model.specs.Clauses.{Clause, clause_of, clauses}
+use Rattle.easl_model.specs.{Assign, Clause, Declare, Written, block_of, clause_of, clauses, written_of}
 use Rattle.easl_model.specs.Clauses as clause
-use Rattle.easl_model.specs.Steps.{Written, Declare, Assign, If, written_of, block_of}
+use Rattle.easl_model.specs.Steps.{If}
 use Rattle.easl_model.specs.Steps as steps
 use Rattle.easl_model.specs.declared.place.Place.{Place}
 use Rattle.easl_model.specs.declared.tree.Cond.{Cond}

@@ -1,9 +1,10 @@
 -- What is printed depends on no place.
 use Rattle.std.proofs.Common.{◌≡◌, ℕ, ◌+◌, ◌||◌, List, [], ◌∷◌, ◌++◌, Option, Some, None, flat_map, map, encode_utf8_all, refl, sym, ap, ◌∙◌}
 use Rattle.std.specs.Option.{option_map}
-use Rattle.easl_model.specs.Clauses.{Clause, Clauses, clause_of, none, more}
+use Rattle.easl_model.specs.{Assign, Block, Clause, Declare, Written, block_of, clause_of, more}
+use Rattle.easl_model.specs.Clauses.{Clauses, none}
 use Rattle.easl_model.specs.Clauses as written
-use Rattle.easl_model.specs.Steps.{Block, Written, Declare, Assign, If, block_of, ◌▸◌}
+use Rattle.easl_model.specs.Steps.{If, ◌▸◌}
 use Rattle.easl_model.specs.Steps as steps
 use Rattle.easl_model.specs.declared.token.Key.TheVariants as keyword
 use Rattle.easl_model.specs.declared.token.Mark.TheVariants as sign
@@ -22,8 +23,7 @@ use Rattle.easl_model.specs.declared.tree.Spec.{Spec}
 use Rattle.easl_model.specs.declared.tree.Value.{Value}
 use Rattle.easl_model.specs.declared.tree.Value.TheVariants as value_of
 use Rattle.easl_model.specs.declared.tree.Word.{Word}
-use Rattle.cv_layout.specs.Layout.{Lexeme, Line, key, mark, line, braced, separated, parens, layout}
-use Rattle.cv_layout.specs.Words.{named, bare_word}
+use Rattle.cv_layout.specs.{Lexeme, Line, bare_word, braced, key, layout, line, mark, named, parens, separated}
 use Rattle.easl_print.specs.Bare.{Code, Member, Field, Constructor, Method, Class, bare_path, bare, bare_all, bare_arg, bare_value, bare_step, bare_block, bare_clause, bare_return, bare_sort, bare_param, bare_code, bare_member, bare_class, bare_spec}
 use Rattle.easl_print.specs.Lines.{head, fields, path, is_any, is_all, parens_where, condition, in_all, in_any, argument, value, sort, param, params, ended, clause_line, set, guard, alternative, step_lines, block_lines, return_line, body_lines, member_lines, class_lines, spec_lines, spec_text}
 

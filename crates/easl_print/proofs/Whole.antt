@@ -1,7 +1,8 @@
 -- A specification that is printed and read again is the same one, places aside.
 use Rattle.std.proofs.Common.{◌≡◌, ℕ, ◌+◌, Bool, true, false, List, [], ◌∷◌, ◌++◌, Some, None, Option, flat_map, append_assoc, append-nil, refl, sym, ap, ◌∙◌, subst}
 use Rattle.std.specs.List.{AllByRecursion}
-use Rattle.easl_model.specs.Steps.{Block, Written, Declare, Assign, If, block_of, ◌▸◌}
+use Rattle.easl_model.specs.{Assign, Block, Declare, Written, block_of}
+use Rattle.easl_model.specs.Steps.{If, ◌▸◌}
 use Rattle.easl_model.specs.Steps as steps
 use Rattle.easl_model.specs.declared.token.Mark.TheVariants as sign
 use Rattle.easl_model.specs.declared.token.Key.TheVariants as keyword
@@ -11,8 +12,7 @@ use Rattle.easl_model.specs.declared.tree.Member.{Member}
 use Rattle.easl_model.specs.declared.tree.Member.TheVariants as member
 use Rattle.easl_model.specs.declared.tree.Return.{Return}
 use Rattle.easl_model.specs.declared.tree.Spec.{Spec}
-use Rattle.cv_layout.specs.Layout.{Lexeme, Line, key, mark, line, braced, parens}
-use Rattle.cv_layout.specs.Tokens.{IsProper, AreOf, tokens_on}
+use Rattle.cv_layout.specs.{AreOf, IsProper, Lexeme, Line, braced, key, line, mark, named, parens, tokens_on}
 use Rattle.cv_layout.proofs.Cutting.{lines_are_cut}
 use Rattle.easl_print.specs.Laws.{SpecsAreReadAgain}
 use Rattle.easl_print.specs.Lines.{sort, params, condition, guard, alternative, step_lines, block_lines, clause_line, return_line, body_lines, member_lines, class_lines, spec_lines, spec_text}
@@ -23,7 +23,6 @@ use Rattle.easl_print.proofs.NestingRules.{spec_nest}
 use Rattle.easl_print.proofs.SameText.{same_text}
 use Rattle.cv_layout.proofs.Nesting.{stays_shallow}
 use Rattle.cv_layout.proofs.Words.{are_written}
-use Rattle.cv_layout.specs.Words.{named}
 
 tokens_append : (xs ys : List Line) → tokens_on (xs ++ ys) ≡ tokens_on xs ++ tokens_on ys
 tokens_append [] ys = refl

@@ -1,8 +1,9 @@
 -- Trees with their places aside: what two trees that differ in places alone have in common.
 use Rattle.std.specs.Prelude.{List, Option, map}
 use Rattle.std.specs.Option.{option_map}
-use Rattle.easl_model.specs.Clauses.{Clause, Clauses, clause_of, Same, Differ, All, Any, none, more}
-use Rattle.easl_model.specs.Steps.{Written, Block, Declare, Assign, If, block_of, ◌▸◌}
+use Rattle.easl_model.specs.{Assign, Block, Clause, Declare, Written, block_of, clause_of, more}
+use Rattle.easl_model.specs.Clauses.{Clauses, Same, Differ, All, Any, none}
+use Rattle.easl_model.specs.Steps.{If, ◌▸◌}
 use Rattle.easl_model.specs.Steps as steps
 use Rattle.easl_model.specs.declared.tree.Arg.{Arg}
 use Rattle.easl_model.specs.declared.tree.Arg.TheVariants as arg
@@ -21,7 +22,7 @@ use Rattle.easl_model.specs.declared.tree.Step.{Step}
 use Rattle.easl_model.specs.declared.tree.Value.{Value}
 use Rattle.easl_model.specs.declared.tree.Value.TheVariants as value
 use Rattle.easl_model.specs.declared.tree.Word.{Word}
-use Rattle.cv_layout.specs.Words.{nowhere, bare_word}
+use Rattle.cv_layout.specs.{bare_word, nowhere}
 
 -- paths, conditions, values and steps, with `nowhere` in place of each place
 abbrev pub bare_path : Path → Path

@@ -1,7 +1,6 @@
 -- What is printed and read again is the same tree, places aside.
 use Rattle.std.specs.Prelude.{◌≡◌, ℕ, List}
-use Rattle.easl_model.specs.Checked.{Spells}
-use Rattle.easl_model.specs.TreeLimits.{IsWithinLimits}
+use Rattle.easl_model.specs.{IsWithinLimits, Spells}
 use Rattle.easl_model.specs.declared.tree.Spec.{Spec}
 use Rattle.easl_print.specs.Bare.{bare_spec}
 use Rattle.easl_print.specs.Lines.{spec_text}

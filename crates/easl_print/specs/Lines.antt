@@ -1,9 +1,9 @@
 -- The canonical layout of a specification: the lines that its tree is written on. The layout is this project's own.
 use Rattle.std.specs.Prelude.{ℕ, ◌+◌, Bool, true, false, ◌||◌, List, [], ◌∷◌, ◌++◌, Option, Some, None, flat_map, map, encode_utf8_all}
-use Rattle.easl_model.specs.Clauses.{Clause, Clauses, clause_of, none, more}
+use Rattle.easl_model.specs.{Assign, Block, Clause, Declare, Written, block_of, clause_of, more, opaque_key}
+use Rattle.easl_model.specs.Clauses.{Clauses, none}
 use Rattle.easl_model.specs.Clauses as written
-use Rattle.easl_model.specs.Grammar.{opaque_key}
-use Rattle.easl_model.specs.Steps.{Block, Written, Declare, Assign, If, block_of, ◌▸◌}
+use Rattle.easl_model.specs.Steps.{If, ◌▸◌}
 use Rattle.easl_model.specs.Steps as steps
 use Rattle.easl_model.specs.declared.token.Key.TheVariants as keyword
 use Rattle.easl_model.specs.declared.token.Mark.TheVariants as sign
@@ -24,8 +24,7 @@ use Rattle.easl_model.specs.declared.tree.Spec.{Spec}
 use Rattle.easl_model.specs.declared.tree.Value.{Value}
 use Rattle.easl_model.specs.declared.tree.Value.TheVariants as values
 use Rattle.easl_model.specs.declared.tree.Word.{Word}
-use Rattle.cv_layout.specs.Layout.{Lexeme, key, mark, Line, line, braced, separated, parens, layout}
-use Rattle.cv_layout.specs.Words.{named}
+use Rattle.cv_layout.specs.{Lexeme, Line, braced, key, layout, line, mark, named, parens, separated}
 
 -- "this" or a name
 abbrev pub head : Option Word → Lexeme

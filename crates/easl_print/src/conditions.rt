@@ -1,8 +1,7 @@
 //! Conditions, with parentheses where a member needs them.
 ghost use Rattle.std.specs.Prelude.{◌≡◌, ◌++◌, ◌∷◌, ◌||◌, OnOk, map};
-ghost use Rattle.cv_layout.specs.Layout.{mark, separated, parens};
-ghost use Rattle.cv_layout.specs.Page.{after};
-ghost use Rattle.easl_model.specs.Clauses.{clause_of, clauses};
+ghost use Rattle.cv_layout.specs.{after, mark, parens, separated};
+ghost use Rattle.easl_model.specs.{clause_of, clauses};
 ghost use Rattle.easl_model.specs.declared.token.Mark.TheVariants as sign;
 ghost use Rattle.easl_print.specs.Lines as lines;
 

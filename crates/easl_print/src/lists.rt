@@ -1,7 +1,6 @@
 //! Lists of what is printed: with commas on a line, or on lines of their own.
 ghost use Rattle.std.specs.Prelude.{◌≡◌, List, OnOk, flat_map, map};
-ghost use Rattle.cv_layout.specs.Layout.{Lexeme, Line, behind, separated};
-ghost use Rattle.cv_layout.specs.Page.{after, after_lines};
+ghost use Rattle.cv_layout.specs.{Lexeme, Line, after, after_lines, behind, separated};
 ghost use Rattle.easl_model.specs.declared.token.Mark.TheVariants as sign;
 
 use cv_layout::Page;

@@ -1,6 +1,6 @@
 //! The lines of clauses, members and classes, and the whole specification.
 ghost use Rattle.std.specs.Prelude.{◌≡◌, Some, IfOk, OnOk};
-ghost use Rattle.cv_layout.specs.Page.{after, after_lines, put};
+ghost use Rattle.cv_layout.specs.{after, after_lines, put};
 ghost use Rattle.easl_model.specs.Grammar as grammar;
 ghost use Rattle.easl_model.specs.declared.tree.Member.TheVariants as member;
 ghost use Rattle.easl_print.specs.Lines as lines;

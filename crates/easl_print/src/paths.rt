@@ -1,6 +1,6 @@
 //! Paths and values.
 ghost use Rattle.std.specs.Prelude.{◌≡◌, OnOk, [], ◌∷◌};
-ghost use Rattle.cv_layout.specs.Page.{after};
+ghost use Rattle.cv_layout.specs.{after};
 ghost use Rattle.easl_print.specs.Lines as lines;
 
 use crate::lists::{OnLine, listed};

@@ -1,9 +1,7 @@
 //! The lines of steps, conditionals among them.
 ghost use Rattle.std.specs.Prelude.{◌≡◌, ◌+◌, [], ◌∷◌, IfOk, OnOk};
-ghost use Rattle.cv_layout.specs.Layout.{key, line, mark};
-ghost use Rattle.cv_layout.specs.Page.{after, after_lines, ended, put};
-ghost use Rattle.easl_model.specs.Clauses.{clause_of};
-ghost use Rattle.easl_model.specs.Steps.{Assign, Declare, block_of, written_of};
+ghost use Rattle.cv_layout.specs.{after, after_lines, ended, key, line, mark, put};
+ghost use Rattle.easl_model.specs.{Assign, Declare, block_of, clause_of, written_of};
 ghost use Rattle.easl_model.specs.declared.token.Key.TheVariants as keyword;
 ghost use Rattle.easl_model.specs.declared.token.Mark.TheVariants as sign;
 ghost use Rattle.easl_print.specs.Lines as lines;

@@ -2,14 +2,10 @@
 use Rattle.std.proofs.Common.{◌≡◌, List, map, refl, ap, sym, subst, ◌∙◌}
 use Rattle.std.specs.Option.{option_or}
 use Rattle.std.specs.Prelude.{Option, Some, None}
-use Rattle.easl_model.specs.Bodies.{Body, bodies_of}
-use Rattle.easl_model.specs.Checked.{IsChecked, IsReadable}
-use Rattle.easl_model.specs.CheckedForm.{classes_from, form_of, method_of}
-use Rattle.easl_model.specs.Cycles.{faults_of_cycles}
-use Rattle.easl_model.specs.Faults.{fault, first_of}
+use Rattle.easl_model.specs.{Body, IsChecked, bodies_of, classes_from, fault, faults_of_bodies, faults_of_cycles, faults_of_headers, faults_of_lengths}
+use Rattle.easl_model.specs.{first_fault, first_of, form_of, method_of}
+use Rattle.easl_model.specs.Checked.{IsReadable}
 use Rattle.easl_model.specs.Form.{Form}
-use Rattle.easl_model.specs.HeaderFaults.{faults_of_headers}
-use Rattle.easl_model.specs.Rules.{faults_of_bodies, faults_of_lengths, first_fault}
 use Rattle.easl_model.specs.declared.fault.Fault.{Fault}
 use Rattle.easl_model.specs.declared.fault.Rule.{Rule}
 use Rattle.easl_model.specs.declared.fault.Rule.TheVariants as rule
@@ -74,7 +70,8 @@ first_long spec classes methods places readable none are =
     ∙ sym (first_is spec ∙ ap (λ o. option_or o (first_of (faults_of_lengths spec))) none)
 
 -- what is found last, in lists that are those parts, is the first fault
-pub long_is : (spec : Spec) (named long : Option Fault) (classes listed : List ClassForm) (methods numbered : List Method) (places ordered : List Place) → IsReadable spec
+pub long_is : (spec : Spec) (named long : Option Fault) (classes listed : List ClassForm) (methods numbered : List Method) (places ordered : List Place)
+    → IsReadable spec
     → named ≡ first_of_names spec → named ≡ None → ArePartsOf spec classes methods places → listed ≡ classes → numbered ≡ methods → ordered ≡ places
     → long ≡ first_of (long_methods (record { classes = listed; methods = numbered }) ordered) → first_fault spec ≡ long
 long_is spec named long classes listed methods numbered places ordered readable is none are a b d found =
@@ -92,6 +89,7 @@ parts_checked spec classes methods places readable none are = record {
   form = form_is spec classes methods places are;
 }
 
-pub parts_are : (spec : Spec) (form : Form) (classes : List ClassForm) (methods : List Method) (places : List Place) → form ≡ record { classes = classes; methods = methods }
+pub parts_are : (spec : Spec) (form : Form) (classes : List ClassForm) (methods : List Method) (places : List Place)
+    → form ≡ record { classes = classes; methods = methods }
     → ArePartsOf spec classes methods places → form ≡ form_of spec
 parts_are spec form classes methods places is are = is ∙ form_is spec classes methods places are

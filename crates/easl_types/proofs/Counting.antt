@@ -6,15 +6,12 @@ use Rattle.std.specs.Prelude.{Option, Some, None, IfSome, if◌then◌else◌, n
 use Rattle.std.proofs.lemmas.Bool.{le-ltb, lt-ltb, ltb-false, ltb-true}
 use Rattle.std.proofs.lemmas.List.{append_assoc}
 use Rattle.std.proofs.lemmas.Option.{slice_get-map}
-use Rattle.easl_model.specs.Bodies.{Body, bodies_of}
-use Rattle.easl_model.specs.CheckedForm.{form_of, method_of}
-use Rattle.easl_model.specs.Faults.{broken_if}
-use Rattle.easl_model.specs.Form.{ActInRange, ActsInRange, Form, MethodInRange, SourceInRange, constructor_of}
-use Rattle.easl_model.specs.Limits.{body_of, constructor_count, count_in_place, count_of, statement_count, total_count, value_count}
-use Rattle.easl_model.specs.Rules.{faults_of_bodies, faults_of_lengths, too_long}
-use Rattle.easl_model.specs.Statements.{Statement, Statements, statements_of}
+use Rattle.easl_model.specs.{ActInRange, ActsInRange, Body, IsWithinLimits, MethodInRange, SourceInRange, Statement, bodies_of, body_of, broken_if}
+use Rattle.easl_model.specs.{constructor_count, constructor_of, count_in_place, count_of, faults_of_bodies, faults_of_lengths, form_of, method_of}
+use Rattle.easl_model.specs.{statement_count, statements_of, too_long, total_count, value_count}
+use Rattle.easl_model.specs.Form.{Form}
+use Rattle.easl_model.specs.Statements.{Statements}
 use Rattle.easl_model.specs.Statements as act
-use Rattle.easl_model.specs.TreeLimits.{IsWithinLimits}
 use Rattle.easl_model.specs.declared.fault.Rule.TheVariants as rule
 use Rattle.easl_model.specs.declared.form.ClassForm.{ClassForm}
 use Rattle.easl_model.specs.declared.form.Method.{Method}
@@ -52,7 +49,8 @@ body_within : (form : Form) → ((k : ℕ) (m : Method) → slice_get form.metho
     → ActsInRange (length form.classes) (body_of form method)
 body_within form each method = by (slice_get form.methods method) refl
   where
-    by : (o : Option Method) → slice_get form.methods method ≡ o → ActsInRange (length form.classes) (option_map_or (λ (m : Method). statements_of m.body) o act.none)
+    by : (o : Option Method) → slice_get form.methods method ≡ o
+        → ActsInRange (length form.classes) (option_map_or (λ (m : Method). statements_of m.body) o act.none)
     by None at = tt
     by (Some m) at = (each method m at).body
 
@@ -74,7 +72,8 @@ counts_agree form bodies (suc depth) class within =
     ∙ ap (λ n. cut (total_count (constructor_count form depth) (body_of form n))) (sym number)
 
 -- the count of a method
-method_agrees : (form : Form) → ((k : ℕ) (m : Method) → slice_get form.methods k ≡ Some m → MethodInRange (length form.classes) m) → (m : Method) → MethodInRange (length form.classes) m
+method_agrees : (form : Form) → ((k : ℕ) (m : Method) → slice_get form.methods k ≡ Some m → MethodInRange (length form.classes) m) → (m : Method)
+    → MethodInRange (length form.classes) m
     → cut (count_by (counts_after form (length form.classes)) m) ≡ cut (count_in_place form m)
 method_agrees form each m within = by m.constructor
   where
@@ -100,7 +99,8 @@ over_limit n = by (nat_lt 1024 n) refl
     by false is = le-ltb 1024 (cut n) (omega (arith, ltb-false 1024 n is))
 
 -- the faults of lengths, from a body on
-long_behind : (spec : Spec) → faults_of_bodies spec ≡ [] → IsWithinLimits spec → (k : ℕ) (before bodies : List Body) → length before ≡ k → before ++ bodies ≡ bodies_of spec
+long_behind : (spec : Spec) → faults_of_bodies spec ≡ [] → IsWithinLimits spec → (k : ℕ) (before bodies : List Body) → length before ≡ k
+    → before ++ bodies ≡ bodies_of spec
     → long_from (counts_after (form_of spec) (length (form_of spec).classes)) (form_of spec).methods k (map (λ (b : Body). b.code.name.place) bodies) ≡ flat_map (too_long spec) bodies
 long_behind spec free within k before [] many are = refl
 long_behind spec free within k before (b ∷ bodies) many are =

@@ -4,10 +4,9 @@ use Rattle.std.specs.List.{AllByRecursion, Contains, fold}
 use Rattle.std.specs.Option.{option_or}
 use Rattle.std.proofs.lemmas.Bool.{and_from, and_parts, cases_order, lt-ltb, ltb-true, or_cases}
 use Rattle.std.proofs.lemmas.List.Elements.{Contains-append_cases, Contains-append_left, Contains-append_right}
-use Rattle.easl_model.specs.Cycles.{faults_of_cycles}
-use Rattle.easl_model.specs.Faults.{comes_before, earlier, first_of, number_of}
-use Rattle.easl_model.specs.HeaderFaults.{faults_of_headers}
-use Rattle.easl_model.specs.Rules.{IsWellFormed, faults_of_bodies, faults_of_lengths, first_fault}
+use Rattle.easl_model.specs.{IsWellFormed, earlier, faults_of_bodies, faults_of_cycles, faults_of_headers, faults_of_lengths, first_fault, first_of}
+use Rattle.easl_model.specs.{number_of}
+use Rattle.easl_model.specs.Faults.{comes_before}
 use Rattle.easl_model.specs.declared.fault.Fault.{Fault}
 use Rattle.easl_model.specs.declared.tree.Spec.{Spec}
 use Rattle.easl_types.specs.Laws.{FirstIsLeast, IsLeastOf, IsLeastOfFirst, NoneIsWellFormed, passes}

@@ -1,9 +1,7 @@
 -- The checked form of a constructor or a method, part by part.
 use Rattle.std.proofs.Common.{◌≡◌, ℕ, Bool, List, map, refl}
 use Rattle.std.specs.Prelude.{Option, Some, if◌then◌else◌, ◌||◌}
-use Rattle.easl_model.specs.Bodies.{Body}
-use Rattle.easl_model.specs.CheckedForm.{has_values, method_of}
-use Rattle.easl_model.specs.Names.{class_of}
+use Rattle.easl_model.specs.{Body, class_of, has_values, method_of}
 use Rattle.easl_model.specs.declared.form.Act.{Act}
 use Rattle.easl_model.specs.declared.form.Method.{Method}
 use Rattle.easl_model.specs.declared.form.Source.{Source}

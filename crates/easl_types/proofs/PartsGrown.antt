@@ -1,9 +1,7 @@
 -- The parts of a checked form, class by class.
 use Rattle.std.proofs.Common.{◌≡◌, ℕ, suc, ◌+◌, List, [], ◌∷◌, ◌++◌, length, map, arith, refl, ap, sym, ◌∙◌, length-append}
 use Rattle.std.proofs.lemmas.List.{append_assoc, length-map, map-append}
-use Rattle.easl_model.specs.Bodies.{Body, bodies_from, bodies_in, constructor_body, method_body}
-use Rattle.easl_model.specs.CheckedForm.{classes_from, method_of}
-use Rattle.easl_model.specs.Names.{methods_in}
+use Rattle.easl_model.specs.{Body, bodies_from, bodies_in, classes_from, constructor_body, method_body, method_of, methods_in}
 use Rattle.easl_model.specs.declared.form.ClassForm.{ClassForm}
 use Rattle.easl_model.specs.declared.form.Method.{Method}
 use Rattle.easl_model.specs.declared.place.Place.{Place}

@@ -6,10 +6,7 @@ use Rattle.std.specs.Prelude.{Option, Some, None, ◌==◌, ◌||◌, slice_get,
 use Rattle.std.proofs.lemmas.Grind.{flat_map-append}
 use Rattle.std.proofs.lemmas.List.{append_assoc, length-map}
 use Rattle.std.proofs.lemmas.Option.{slice_get-map}
-use Rattle.easl_model.specs.Cycles.{calls, cycles_from, faults_of_cycles, leads_back, made_by, news_in}
-use Rattle.easl_model.specs.Faults.{broken_if}
-use Rattle.easl_model.specs.Names.{class_named, constructor_in}
-use Rattle.easl_model.specs.Steps.{block_of}
+use Rattle.easl_model.specs.{block_of, broken_if, calls, class_named, constructor_in, cycles_from, faults_of_cycles, leads_back, made_by, news_in}
 use Rattle.easl_model.specs.declared.fault.Rule.TheVariants as rule
 use Rattle.easl_model.specs.declared.tree.Class.{Class}
 use Rattle.easl_model.specs.declared.tree.Code.{Code}
@@ -43,7 +40,8 @@ pub calls_in_both : (spec : Spec) (xs ys : List New) → flat_map (call_of spec)
 calls_in_both spec xs ys = flat_map-append (call_of spec) xs ys
 
 -- the marks of a next row, by the calls of the class
-set_next : (all : List (List Call)) (other : ℕ) (row : List Bool) (class : ℕ) → is_set (next_row all other row) class ≡ list_any (leads_to row other) (unwrap_or (slice_get all class) [])
+set_next : (all : List (List Call)) (other : ℕ) (row : List Bool) (class : ℕ)
+    → is_set (next_row all other row) class ≡ list_any (leads_to row other) (unwrap_or (slice_get all class) [])
 set_next all other row class = ap (λ o. unwrap_or o false) (slice_get-map (list_any (leads_to row other)) all class) ∙ by (slice_get all class)
   where
     by : (o : Option (List Call)) → unwrap_or (option_map (list_any (leads_to row other)) o) false ≡ list_any (leads_to row other) (unwrap_or o [])

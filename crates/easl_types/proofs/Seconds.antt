@@ -2,10 +2,9 @@
 use Rattle.std.proofs.Common.{◌≡◌, ℕ, ◌+◌, ◌<◌, true, false, List, [], ◌∷◌, ◌++◌, ap, drop, get_or, length, map, refl, sym, ◌∙◌}
 use Rattle.std.specs.List.{flat_map, list_any}
 use Rattle.std.specs.Prelude.{Option}
-use Rattle.easl_model.specs.BodyFaults.{no_class}
-use Rattle.easl_model.specs.Faults.{broken_if, comes_before, fault, first_with}
-use Rattle.easl_model.specs.HeaderFaults.{faults_of_class, faults_of_header, other_name, second_constructors, second_names}
-use Rattle.easl_model.specs.Names.{codes_in, constructors_in, fields_in, is_same, methods_in}
+use Rattle.easl_model.specs.{broken_if, codes_in, constructors_in, fault, faults_of_class, faults_of_header, fields_in, first_with, is_same, methods_in}
+use Rattle.easl_model.specs.{no_class, other_name, second_constructors, second_names}
+use Rattle.easl_model.specs.Faults.{comes_before}
 use Rattle.easl_model.specs.declared.fault.Fault.{Fault}
 use Rattle.easl_model.specs.declared.fault.Rule.TheVariants as rule
 use Rattle.easl_model.specs.declared.tree.Class.{Class}
@@ -70,6 +69,7 @@ all_of_class spec c members found fields methods constructors types names last a
     ++ flat_map (other_name c) (constructors_in ms)
     ++ flat_map (faults_of_header spec) (codes_in ms))) are
   where
-    more : (start : Option Fault) (fs gs : List Fault) (first second : Option Fault) → first ≡ first_with comes_before start fs → second ≡ first_with comes_before first gs
+    more : (start : Option Fault) (fs gs : List Fault) (first second : Option Fault) → first ≡ first_with comes_before start fs
+        → second ≡ first_with comes_before first gs
         → second ≡ first_with comes_before start (fs ++ gs)
     more start fs gs first second is later = later ∙ ap (λ o. first_with comes_before o gs) is ∙ sym (both comes_before start fs gs)

@@ -1,9 +1,6 @@
 -- What the check of a specification answers.
 use Rattle.std.specs.Prelude.{◌≡◌, Option, Some}
-use Rattle.easl_model.specs.Cycles.{faults_of_cycles}
-use Rattle.easl_model.specs.Faults.{fault, first_of}
-use Rattle.easl_model.specs.HeaderFaults.{faults_of_headers}
-use Rattle.easl_model.specs.Rules.{faults_of_bodies}
+use Rattle.easl_model.specs.{fault, faults_of_bodies, faults_of_cycles, faults_of_headers, first_of}
 use Rattle.easl_model.specs.declared.fault.Fault.{Fault}
 use Rattle.easl_model.specs.declared.fault.Rule.{Rule}
 use Rattle.easl_model.specs.declared.fault.Rule.TheVariants as rule

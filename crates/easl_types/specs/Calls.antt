@@ -2,10 +2,7 @@
 use Rattle.std.specs.Prelude.{ℕ, zero, suc, Bool, false, ◌==◌, ◌||◌, List, [], ◌∷◌, ◌++◌, Option, Some, None, length, map, slice_get, unwrap_or}
 use Rattle.std.specs.List.{flat_map, list_any}
 use Rattle.std.specs.Option.{option_map_or}
-use Rattle.easl_model.specs.Cycles.{news_in}
-use Rattle.easl_model.specs.Faults.{broken_if}
-use Rattle.easl_model.specs.Names.{class_named, constructor_in}
-use Rattle.easl_model.specs.Steps.{block_of}
+use Rattle.easl_model.specs.{block_of, broken_if, class_named, constructor_in, news_in}
 use Rattle.easl_model.specs.declared.fault.Fault.{Fault}
 use Rattle.easl_model.specs.declared.fault.Rule.TheVariants as rule
 use Rattle.easl_model.specs.declared.place.Place.{Place}

@@ -1,6 +1,6 @@
 -- Second constructors.
 use Rattle.std.specs.Prelude.{Bool, true, List, [], ◌∷◌, ◌++◌}
-use Rattle.easl_model.specs.Faults.{broken_if}
+use Rattle.easl_model.specs.{broken_if}
 use Rattle.easl_model.specs.declared.fault.Fault.{Fault}
 use Rattle.easl_model.specs.declared.fault.Rule.TheVariants as rule
 use Rattle.easl_model.specs.declared.tree.Code.{Code}

@@ -1,9 +1,7 @@
 -- Counts of statements in place, as far as the limit.
 use Rattle.std.specs.Prelude.{ℕ, zero, suc, ◌+◌, List, [], ◌∷◌, ◌++◌, Option, Some, None, if◌then◌else◌, length, map, min, nat_lt, slice_get, unwrap_or}
-use Rattle.easl_model.specs.Faults.{broken_if}
+use Rattle.easl_model.specs.{body_of, broken_if, statements_of, total_count, value_count}
 use Rattle.easl_model.specs.Form.{Form}
-use Rattle.easl_model.specs.Limits.{body_of, total_count, value_count}
-use Rattle.easl_model.specs.Statements.{statements_of}
 use Rattle.easl_model.specs.declared.fault.Fault.{Fault}
 use Rattle.easl_model.specs.declared.fault.Rule.TheVariants as rule
 use Rattle.easl_model.specs.declared.form.Method.{Method}

@@ -1,7 +1,6 @@
 -- The checked form of one class.
 use Rattle.std.specs.Prelude.{ℕ, true, [], Some, None, map}
-use Rattle.easl_model.specs.CheckedForm.{class_number}
-use Rattle.easl_model.specs.Names.{fields_in}
+use Rattle.easl_model.specs.{class_number, fields_in}
 use Rattle.easl_model.specs.declared.form.ClassForm.{ClassForm}
 use Rattle.easl_model.specs.declared.form.Method.{Method}
 use Rattle.easl_model.specs.declared.tree.Class.{Class}

@@ -1,10 +1,8 @@
 -- Which fault the check answers: the least one of the first pass that finds any.
 use Rattle.std.specs.Prelude.{◌≡◌, ◌⊎◌, List, [], ◌∷◌, Option, Some, None, false}
 use Rattle.std.specs.List.{AllByRecursion, Contains}
-use Rattle.easl_model.specs.Cycles.{faults_of_cycles}
+use Rattle.easl_model.specs.{IsWellFormed, faults_of_bodies, faults_of_cycles, faults_of_headers, faults_of_lengths, first_fault}
 use Rattle.easl_model.specs.Faults.{comes_before}
-use Rattle.easl_model.specs.HeaderFaults.{faults_of_headers}
-use Rattle.easl_model.specs.Rules.{IsWellFormed, faults_of_bodies, faults_of_lengths, first_fault}
 use Rattle.easl_model.specs.declared.fault.Fault.{Fault}
 use Rattle.easl_model.specs.declared.tree.Spec.{Spec}
 

@@ -1,8 +1,7 @@
 //! Checks specifications.
 ghost use Rattle.std.specs.Prelude.{◌≡◌, IfOk, MatchResult, None};
 ghost use Rattle.easl_model.specs.Checked.{IsReadable};
-ghost use Rattle.easl_model.specs.CheckedForm.{form_of};
-ghost use Rattle.easl_model.specs.Rules.{first_fault};
+ghost use Rattle.easl_model.specs.{first_fault, form_of};
 ghost use Rattle.easl_types.specs.Answers.{Tells, first_of_names};
 ghost use Rattle.easl_types.specs.Laws.{FirstIsLeast, NoneIsWellFormed};
 

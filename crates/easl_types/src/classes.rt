@@ -2,11 +2,9 @@
 ghost use Rattle.std.specs.Prelude.{◌≡◌, ◌∷◌, [], IfOk, None, map};
 ghost use Rattle.std.specs.List.{flat_map};
 ghost use Rattle.std.specs.Option.{option_copied};
-ghost use Rattle.easl_model.specs.Bodies.{bodies_from, bodies_in, constructor_body, constructor_or_implicit, method_body};
-ghost use Rattle.easl_model.specs.Names.{methods_in, constructor_in};
-ghost use Rattle.easl_model.specs.BodyFaults.{faults_of_body};
-ghost use Rattle.easl_model.specs.Faults.{comes_before, first_of, first_with};
-ghost use Rattle.easl_model.specs.Rules.{faults_of_bodies};
+ghost use Rattle.easl_model.specs.{bodies_from, bodies_in, constructor_body, constructor_in, constructor_or_implicit, faults_of_bodies, faults_of_body};
+ghost use Rattle.easl_model.specs.{first_of, first_with, method_body, methods_in};
+ghost use Rattle.easl_model.specs.Faults.{comes_before};
 
 use easl_bodies::{constructor_among, faults_of_code, field_count, members_of, note_if};
 use easl_model::{Class, Fault, Member, Rule, Spec};

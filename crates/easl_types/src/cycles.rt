@@ -1,9 +1,8 @@
 //! Constructors that call each other.
 ghost use Rattle.std.specs.Prelude.{◌≡◌, ◌==◌, ◌||◌, ◌++◌, IfOk, None, OnOk, length};
 ghost use Rattle.std.specs.List.{flat_map, list_any};
-ghost use Rattle.easl_model.specs.Cycles.{faults_of_cycles, new_in, news_in, news_of};
-ghost use Rattle.easl_model.specs.Faults.{comes_before, first_of, first_with};
-ghost use Rattle.easl_model.specs.Steps.{block_of, written_of};
+ghost use Rattle.easl_model.specs.{block_of, faults_of_cycles, first_of, first_with, new_in, news_in, news_of, written_of};
+ghost use Rattle.easl_model.specs.Faults.{comes_before};
 ghost use Rattle.easl_types.specs.Calls as told;
 
 use easl_bodies::{class_named, constructor_among, note_if};

@@ -1,13 +1,12 @@
 //! The checked form of bodies.
 ghost use Rattle.std.specs.Prelude.{◌≡◌, ◌++◌, IfOk, OnOk, List, None, map};
 ghost use Rattle.std.specs.List.{last_or};
-ghost use Rattle.easl_model.specs.Clauses.{clause_of, clauses};
+ghost use Rattle.easl_model.specs.{block_of, clause_of, clauses, written_of};
 ghost use Rattle.easl_model.specs.declared.tree.Word as tree;
 ghost use Rattle.easl_model.specs.BodyFaults as rules_told;
 ghost use Rattle.easl_model.specs.CheckedForm as told;
 ghost use Rattle.easl_model.specs.declared.scope.Target.TheVariants as target;
 ghost use Rattle.easl_model.specs.Paths as paths_told;
-ghost use Rattle.easl_model.specs.Steps.{block_of, written_of};
 
 use crate::no_memory::NoMemory;
 use easl_bodies::{

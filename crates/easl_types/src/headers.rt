@@ -2,10 +2,10 @@
 ghost use Rattle.std.specs.Prelude.{◌≡◌, ◌∷◌, ◌++◌, [], IfOk, None, OnOk, map};
 ghost use Rattle.std.specs.List.{flat_map, list_any};
 ghost use Rattle.easl_model.specs.declared.fault.Rule.TheVariants as rule;
-ghost use Rattle.easl_model.specs.Faults.{broken_if, comes_before, first_of, first_with};
+ghost use Rattle.easl_model.specs.{broken_if, codes_in, constructors_in, fields_in, first_of, first_with, is_same, methods_in};
+ghost use Rattle.easl_model.specs.Faults.{comes_before};
 ghost use Rattle.easl_model.specs.BodyFaults as bodies_told;
 ghost use Rattle.easl_model.specs.HeaderFaults as told;
-ghost use Rattle.easl_model.specs.Names.{codes_in, constructors_in, fields_in, is_same, methods_in};
 
 use easl_bodies::{names_agree, no_class, note_if};
 use easl_model::{Class, Code, Fault, Member, Name, Param, Rule, Sort, Spec, Word};

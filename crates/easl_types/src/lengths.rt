@@ -1,9 +1,8 @@
 //! How many statements methods execute in place.
 ghost use Rattle.std.specs.Prelude.{◌≡◌, ◌+◌, IfOk, List, length};
 ghost use Rattle.std.specs.Option.{option_copied};
-ghost use Rattle.easl_model.specs.Faults.{comes_before, first_of, first_with};
-ghost use Rattle.easl_model.specs.Limits.{body_of, count_of, statement_count, total_count, value_count};
-ghost use Rattle.easl_model.specs.Statements.{statement_of, statements_of};
+ghost use Rattle.easl_model.specs.{body_of, count_of, first_of, first_with, statement_count, statement_of, statements_of, total_count, value_count};
+ghost use Rattle.easl_model.specs.Faults.{comes_before};
 ghost use Rattle.easl_model.specs.declared.form.ClassForm as declared;
 ghost use Rattle.easl_types.specs.Counts as told;
 

@@ -1,10 +1,8 @@
 //! The checked form of methods and classes.
 ghost use Rattle.std.specs.Prelude.{◌≡◌, ◌++◌, ◌||◌, IfOk, OnOk, Some, if◌then◌else◌, map};
 ghost use Rattle.std.specs.Option.{option_copied, option_map};
-ghost use Rattle.easl_model.specs.Bodies.{bodies_in, bodies_of, constructor_body, method_body};
+ghost use Rattle.easl_model.specs.{bodies_in, bodies_of, class_of as class_told, clause_of, clauses, constructor_body, fields_in, method_body, methods_in};
 ghost use Rattle.easl_model.specs.CheckedForm as told;
-ghost use Rattle.easl_model.specs.Clauses.{clause_of, clauses};
-ghost use Rattle.easl_model.specs.Names.{class_of as class_told, fields_in, methods_in};
 ghost use Rattle.easl_types.specs.Forms as forms;
 
 use crate::form::{acts_of, class_number, number, source_of, test_of};

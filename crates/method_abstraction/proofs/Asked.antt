@@ -6,7 +6,7 @@ use Rattle.std.proofs.lemmas.List.FromFn.{map-range_with_len_more}
 use Rattle.std.proofs.lemmas.Option.{get_or_from_slice_get, slice_get_within}
 use Rattle.easl_model.specs.declared.form.Method.{Method}
 use Rattle.access_paths.specs.declared.term.Family.{Family}
-use Rattle.method_abstraction.specs.Asking.{clause_count, clauses_from, result_sets, updates_by}
+use Rattle.method_abstraction.specs.{clause_count, clauses_from, result_sets, updates_by}
 use Rattle.method_abstraction.specs.declared.entry.Question.{Question}
 use Rattle.method_abstraction.specs.declared.entry.Question.TheVariants.{Clause, Update}
 

@@ -1,8 +1,6 @@
 -- Entries one to one with the questions.
 use Rattle.std.proofs.lemmas.Slice.Zip.{AllZip-long}
-use Rattle.method_abstraction.specs.Exact.{IsClauseEntry, IsUpdateEntry}
-use Rattle.method_abstraction.specs.Asking.{clause_questions, update_questions}
-use Rattle.method_abstraction.specs.Laws.{OneEntryEach}
+use Rattle.method_abstraction.specs.{IsClauseEntry, IsUpdateEntry, OneEntryEach, clause_questions, update_questions}
 
 pub one_entry_each : OneEntryEach
 one_entry_each form a exact = (

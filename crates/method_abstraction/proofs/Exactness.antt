@@ -2,20 +2,14 @@
 use Rattle.std.proofs.Common.{◌≡◌, ℕ, suc, ◌||◌, is_none, List, [], ◌∷◌, None, All, refl, ap, sym, ◌∙◌, arith}
 use Rattle.std.specs.List.{AllZip, list_any}
 use Rattle.std.specs.Option.{option_map_or}
-use Rattle.easl_heap.specs.Body.{body, called, outcome}
-use Rattle.easl_heap.specs.Clause.{first_failing}
-use Rattle.easl_heap.specs.Heap.{Object}
-use Rattle.access_paths.specs.Truth.{by_objects, cube_holds}
-use Rattle.access_paths.specs.Variables.{arguments_in, before_call, no_family, put, variables_of}
+use Rattle.easl_heap.specs.{Object, body, called, first_failing, outcome}
+use Rattle.access_paths.specs.{arguments_in, before_call, by_objects, cube_holds, no_family, put, variables_of}
 use Rattle.access_paths.specs.declared.term.Cube.{Cube}
 use Rattle.access_paths.specs.declared.term.Family.{Family}
 use Rattle.access_paths.specs.declared.term.Term.{Term}
-use Rattle.case_model.specs.Configurations.{by_blocks}
-use Rattle.case_model.specs.HeapCases.{HasCase, case_of}
-use Rattle.case_model.specs.TermLists.{HasTerms, terms_of_cube}
+use Rattle.case_model.specs.{HasCase, HasTerms, by_blocks, case_of, terms_of_cube}
 use Rattle.case_model.proofs.Cases.{heaps_have_cases}
-use Rattle.method_abstraction.specs.Exact.{disjunct_holds}
-use Rattle.method_abstraction.specs.Laws.{ClausesAreExact, SaysSame, UpdatesAreExact, one_holds}
+use Rattle.method_abstraction.specs.{ClausesAreExact, SaysSame, UpdatesAreExact, disjunct_holds, one_holds}
 use Rattle.method_abstraction.specs.declared.entry.Disjunct.{Disjunct}
 
 -- one of the cubes is true in the heap's configuration where one of the disjuncts is in the heap

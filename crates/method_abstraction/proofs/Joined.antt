@@ -1,6 +1,6 @@
 -- Texts with another between each two, one by one.
 use Rattle.std.proofs.Common.{◌≡◌, ℕ, List, [], ◌∷◌, ◌++◌, ◌∙◌, refl, sym, ap, append-nil}
-use Rattle.method_abstraction.specs.Texts.{joined}
+use Rattle.method_abstraction.specs.{joined}
 
 -- texts with one before the first, and one before each other
 abbrev pub led : List ℕ → List ℕ → List (List ℕ) → List ℕ

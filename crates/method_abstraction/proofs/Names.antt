@@ -3,7 +3,8 @@ use Rattle.std.proofs.Common.{◌≡◌, ℕ, ◌≤◌, List, [], length, IsUtf
 use Rattle.std.specs.Option.{option_map}
 use Rattle.std.proofs.lemmas.Option.{slice_get_past}
 use Rattle.std.proofs.lemmas.Str.{encodes-chars}
-use Rattle.easl_model.specs.Form.{Form, fields_of}
+use Rattle.easl_model.specs.{fields_of}
+use Rattle.easl_model.specs.Form.{Form}
 
 -- the bytes of a name are the encoding of its characters
 pub spelled : (bytes : List ℕ) → IsUtf8 bytes → bytes ≡ encode_utf8_all (chars bytes)

@@ -4,7 +4,7 @@ use Rattle.std.specs.List.{filter, range_with_len}
 use Rattle.std.specs.Option.{option_map_or}
 use Rattle.easl_model.specs.Form.{Form}
 use Rattle.easl_model.specs.declared.form.Method.{Method}
-use Rattle.access_paths.specs.Variables.{family_classes}
+use Rattle.access_paths.specs.{family_classes}
 use Rattle.access_paths.specs.declared.term.Family.{Family}
 use Rattle.method_abstraction.specs.declared.entry.Question.{Question}
 use Rattle.method_abstraction.specs.declared.entry.Question.TheVariants.{Clause, Update}

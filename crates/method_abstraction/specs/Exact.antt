@@ -2,16 +2,12 @@
 use Rattle.std.specs.Prelude.{◌≡◌, ℕ, ◌-◌, ◌≤◌, Bool, true, false, not, List, All, length, map, Option, Some, None, slice_get, slice_index}
 use Rattle.std.specs.List.{AllZip, list_any}
 use Rattle.std.specs.Option.{option_map_or}
-use Rattle.easl_model.specs.Conditions.{Condition, condition_of}
+use Rattle.easl_model.specs.{Condition, condition_of}
 use Rattle.easl_model.specs.Form.{Form}
 use Rattle.easl_model.specs.declared.form.Method.{Method}
 use Rattle.easl_model.specs.declared.form.Test.{Test}
-use Rattle.easl_heap.specs.Body.{body}
-use Rattle.easl_heap.specs.Clause.{holds, requires_of}
-use Rattle.easl_heap.specs.Heap.{Object, IsFull}
-use Rattle.access_paths.specs.Fitting.{Fits}
-use Rattle.access_paths.specs.Truth.{by_objects, cube_holds}
-use Rattle.access_paths.specs.Variables.{AreObjects, arguments_in, before_call, no_family, put, variables_of}
+use Rattle.easl_heap.specs.{IsFull, Object, body, holds, requires_of}
+use Rattle.access_paths.specs.{AreObjects, Fits, arguments_in, before_call, by_objects, cube_holds, no_family, put, variables_of}
 use Rattle.access_paths.specs.declared.term.Family.{Family}
 use Rattle.method_abstraction.specs.Asking.{clause_questions, update_questions}
 use Rattle.method_abstraction.specs.declared.entry.Abstraction.{Abstraction}

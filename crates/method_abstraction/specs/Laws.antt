@@ -1,20 +1,17 @@
 -- Laws on entries: there is one for each question, and disjuncts that tell what the tree tells in each configuration that counts are exact.
 use Rattle.std.specs.Prelude.{◌≡◌, ℕ, Bool, true, List, All, Option, Some, length, slice_get}
 use Rattle.std.specs.List.{AllZip, list_any}
-use Rattle.easl_model.specs.Conditions.{Condition}
+use Rattle.easl_model.specs.{Condition}
 use Rattle.easl_model.specs.Form.{Form}
 use Rattle.easl_model.specs.declared.form.Method.{Method}
-use Rattle.easl_heap.specs.Heap.{Object}
-use Rattle.access_paths.specs.Trees.{Tree, answer}
-use Rattle.access_paths.specs.Truth.{Equals, by_objects, cube_holds}
-use Rattle.access_paths.specs.Variables.{before_call, no_family, variables_of}
+use Rattle.easl_heap.specs.{Object}
+use Rattle.access_paths.specs.{Equals, answer, before_call, by_objects, cube_holds, no_family, variables_of}
+use Rattle.access_paths.specs.Trees.{Tree}
 use Rattle.access_paths.specs.declared.term.Cube.{Cube}
 use Rattle.access_paths.specs.declared.term.Family.{Family}
 use Rattle.access_paths.specs.declared.term.Term.{Term}
-use Rattle.case_model.specs.Care.{clauses_hold}
-use Rattle.case_model.specs.Configurations.{IsConfiguration, by_blocks}
-use Rattle.case_model.specs.TermLists.{HasTerms, HaveClasses, terms_of_clauses, terms_of_cube, terms_of_tree}
-use Rattle.question_model.specs.Law.{TellsAfter, TellsFalse}
+use Rattle.case_model.specs.{HasTerms, HaveClasses, IsConfiguration, by_blocks, clauses_hold, terms_of_clauses, terms_of_cube, terms_of_tree}
+use Rattle.question_model.specs.{TellsAfter, TellsFalse}
 use Rattle.method_abstraction.specs.Asking.{clause_questions, update_questions}
 use Rattle.method_abstraction.specs.Exact.{HasExactEntries, IsExactClause, IsExactUpdate, disjunct_holds}
 use Rattle.method_abstraction.specs.declared.entry.Abstraction.{Abstraction}

@@ -1,5 +1,5 @@
 //! Laws on entries, as the contracts of functions that do nothing.
-ghost use Rattle.method_abstraction.specs.Laws.{ClausesAreExact, OneEntryEach, UpdatesAreExact};
+ghost use Rattle.method_abstraction.specs.{ClausesAreExact, OneEntryEach, UpdatesAreExact};
 
 /// An abstraction that has exact entries has one for each question.
 pub fn entries_are_one_each()

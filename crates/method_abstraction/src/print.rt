@@ -1,7 +1,8 @@
 //! The text of an abstraction.
 ghost use Rattle.std.specs.Prelude.{◌≡◌, ◌++◌, ◌∷◌, [], IfOk, OnOk, codes, if◌then◌else◌, map};
 ghost use Rattle.std.specs.List.{flat_map, list_any};
-ghost use Rattle.method_abstraction.specs.Texts.{abstraction_text, asked_text, clause_line, disjunct_text, facts_text, instance_text, joined, method_text, names_text, results_text, update_line, written_line};
+ghost use Rattle.method_abstraction.specs.{abstraction_text, asked_text, clause_line, disjunct_text, facts_text, instance_text, joined, method_text};
+ghost use Rattle.method_abstraction.specs.{names_text, results_text, update_line, written_line};
 ghost use Rattle.method_abstraction.specs.Texts as told;
 
 use crate::entry::{Abstraction, ClauseFacts, Disjunct, Update};

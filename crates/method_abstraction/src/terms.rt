@@ -1,7 +1,8 @@
 //! The texts of terms, cubes and families.
 ghost use Rattle.std.specs.Prelude.{◌≡◌, ◌<◌, ◌++◌, [], OnOk, codes, encode_utf8_all, slice_get, slice_index, unwrap_or};
-ghost use Rattle.easl_model.specs.Form.{field_names_of, fields_of};
-ghost use Rattle.method_abstraction.specs.Texts.{class_name_of, cube_text, family_name, family_text, families_text, fields_text, joined, literal_text, term_text, variable_text, variables_text};
+ghost use Rattle.easl_model.specs.{field_names_of, fields_of};
+ghost use Rattle.method_abstraction.specs.{class_name_of, cube_text, families_text, family_name, family_text, fields_text, joined, literal_text, term_text};
+ghost use Rattle.method_abstraction.specs.{variable_text, variables_text};
 
 use access_paths::{Family, Literal, Term};
 use cv_base::{Memory, push_bytes, push_number};

@@ -1,21 +1,19 @@
 -- Bodies and cubes ask terms of the question's variables.
 use Rattle.std.proofs.Common.{ℕ, zero, suc, Bool, true, false, not, if◌then◌else◌, List, [], ◌∷◌, ◌++◌, length, take, Option, Some, None, slice_get, slice_index_or, slice_set, subst}
-use Rattle.easl_model.specs.Form.{Form, constructor_of, fields_of}
-use Rattle.easl_model.specs.Limits.{body_of}
-use Rattle.easl_model.specs.Statements.{Statement, Statements, statements_of, Local, Change, Write, If, none, ◌▸◌}
+use Rattle.easl_model.specs.{Change, Local, Statement, Write, body_of, constructor_of, fields_of, statements_of}
+use Rattle.easl_model.specs.Form.{Form}
+use Rattle.easl_model.specs.Statements.{Statements, If, none, ◌▸◌}
 use Rattle.easl_model.specs.declared.form.Method.{Method}
 use Rattle.easl_model.specs.declared.form.Reach as path
 use Rattle.easl_model.specs.declared.form.Source.{Source}
 use Rattle.easl_model.specs.declared.form.Source.TheVariants.{Reach, Make}
-use Rattle.access_paths.specs.Trees.{Tree, Leaf, Ask}
+use Rattle.access_paths.specs.{Ask, Leaf}
+use Rattle.access_paths.specs.Trees.{Tree}
 use Rattle.access_paths.specs.declared.term.Literal.{Literal}
-use Rattle.question_model.specs.Asked.{AsksTerms}
-use Rattle.question_model.specs.Bodies.{Making, Outcome, argument, arguments, called, made, outcome, returned, run, step, value}
-use Rattle.question_model.specs.Questions.{cube_after, literal_after, term_after}
-use Rattle.question_model.specs.Split.{IsTreeBehind, said}
-use Rattle.question_model.specs.Stage.{Stage, Done, Needs, ◌>>=◌}
-use Rattle.question_model.specs.States.{State, ended, holds, reached, state}
-use Rattle.question_model.specs.Values.{are_same, written, written_in}
+use Rattle.question_model.specs.{AsksTerms, Done, IsTreeBehind, Making, Needs, Outcome, State, are_same, argument, arguments, called, cube_after, ended}
+use Rattle.question_model.specs.{holds, literal_after, made, outcome, reached, returned, run, said, state, step, term_after, value, written, written_in}
+use Rattle.question_model.specs.{◌>>=◌}
+use Rattle.question_model.specs.Stage.{Stage}
 use Rattle.question_model.specs.declared.answer.Answer.{Answer}
 use Rattle.question_model.specs.declared.value.Value.{Value}
 use Rattle.question_model.specs.declared.value.Value.TheVariants.{Before, Fresh, Nothing}

@@ -1,9 +1,9 @@
 -- Conditions compare terms of the question's variables.
 use Rattle.std.proofs.Common.{ℕ, Bool, true, false, not, if◌then◌else◌, List, Option}
-use Rattle.easl_model.specs.Conditions.{Condition, Conditions, Same, Differ, All, Any, none, ◌▸◌}
+use Rattle.easl_model.specs.{Condition}
+use Rattle.easl_model.specs.Conditions.{Conditions, Same, Differ, All, Any, none, ◌▸◌}
 use Rattle.easl_model.specs.Form.{Form}
-use Rattle.question_model.specs.Stage.{Done}
-use Rattle.question_model.specs.States.{State, all_hold, any_holds, compared, holds}
+use Rattle.question_model.specs.{Done, State, all_hold, any_holds, compared, holds}
 use Rattle.question_model.specs.declared.answer.Answer.{Answer}
 use Rattle.question_model.proofs.AskedValues.{Comes, FineState, SomeAnswer, compared_comes, comes_if, comes_on}
 

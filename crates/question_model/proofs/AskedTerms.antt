@@ -3,14 +3,10 @@ use Rattle.std.proofs.Common.{inl, inr, ◌≡◌, ℕ, suc, ◌+◌, ◌≤◌,
 use Rattle.std.specs.Prelude.{IfSome}
 use Rattle.easl_model.specs.Form.{Form}
 use Rattle.easl_model.specs.declared.form.Method.{Method}
-use Rattle.access_paths.specs.Variables.{before_call, no_family, variables_of}
+use Rattle.access_paths.specs.{before_call, no_family, variables_of}
 use Rattle.access_paths.specs.declared.term.Family.{Family}
-use Rattle.question_model.specs.Asked.{ClauseAsksTerms, UpdateAsksTerms}
-use Rattle.question_model.specs.Bodies.{called}
-use Rattle.question_model.specs.Questions.{after_call, arguments_of, cube_after, fails, update, variable}
+use Rattle.question_model.specs.{ClauseAsksTerms, Done, UpdateAsksTerms, after_call, arguments_of, called, cube_after, fails, holds, state, update, variable}
 use Rattle.question_model.specs.Questions as told
-use Rattle.question_model.specs.Stage.{Done}
-use Rattle.question_model.specs.States.{holds, state}
 use Rattle.question_model.specs.declared.value.Value.{Value}
 use Rattle.question_model.proofs.AskedBodies.{FineOutcome, asks_terms, called_comes, cube_comes}
 use Rattle.question_model.proofs.AskedConditions.{holds_comes}

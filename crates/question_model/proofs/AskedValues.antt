@@ -3,15 +3,14 @@ use Rattle.std.proofs.Common.{◌≡◌, ℕ, zero, suc, ◌≤◌, ◌&&◌, Bo
 use Rattle.std.specs.Prelude.{IfSome}
 use Rattle.std.specs.declared.cmp.Ordering.{Ordering}
 use Rattle.std.specs.declared.cmp.Ordering.TheVariants.{Less, Equal, Greater}
-use Rattle.easl_model.specs.Form.{Form, fields_of}
+use Rattle.easl_model.specs.{fields_of}
+use Rattle.easl_model.specs.Form.{Form}
 use Rattle.easl_model.specs.declared.form.Reach.{Reach}
-use Rattle.access_paths.specs.Fitting.{IsTermOf}
-use Rattle.access_paths.specs.Terms.{compare_terms, field}
+use Rattle.access_paths.specs.{IsTermOf, compare_terms, field}
 use Rattle.access_paths.specs.declared.term.Term.{Term}
-use Rattle.question_model.specs.Asked.{IsTerm}
-use Rattle.question_model.specs.Stage.{Stage, Done, Needs, Long, answered, by_order, is_term, ◌>>=◌}
-use Rattle.question_model.specs.States.{State, compared, reached}
-use Rattle.question_model.specs.Values.{are_same, extended, field_of, is_found, is_write_of, led, may_grow, through, unwritten}
+use Rattle.question_model.specs.{Done, IsTerm, Long, Needs, State, answered, are_same, by_order, compared, extended, field_of, is_found, is_term, is_write_of}
+use Rattle.question_model.specs.{led, may_grow, reached, through, unwritten, ◌>>=◌}
+use Rattle.question_model.specs.Stage.{Stage}
 use Rattle.question_model.specs.declared.answer.Answer.{Answer}
 use Rattle.question_model.specs.declared.value.Value.{Value}
 use Rattle.question_model.specs.declared.value.Value.TheVariants.{Before, Fresh, Nothing}

@@ -3,12 +3,11 @@ use Rattle.std.proofs.Common.{◌≡◌, ℕ, Bool, true, false, ◌&&◌, if◌
 use Rattle.std.specs.Cmp.{nat_eq_equiv}
 use Rattle.std.specs.declared.cmp.Ordering.{Ordering}
 use Rattle.std.specs.declared.cmp.Ordering.TheVariants.{Less, Equal, Greater}
-use Rattle.easl_heap.specs.Heap.{Object}
-use Rattle.access_paths.specs.Terms.{compare_terms}
-use Rattle.access_paths.specs.Truth.{by_objects, object_of}
+use Rattle.easl_heap.specs.{Object}
+use Rattle.access_paths.specs.{by_objects, compare_terms, object_of}
 use Rattle.access_paths.specs.declared.term.Term.{Term}
-use Rattle.question_model.specs.Stage.{Stage, Done, Needs, Long, answered, ask, by_order, is_term, ◌>>=◌}
-use Rattle.question_model.specs.Split.{said}
+use Rattle.question_model.specs.{Done, Long, Needs, answered, ask, by_order, is_term, said, ◌>>=◌}
+use Rattle.question_model.specs.Stage.{Stage}
 use Rattle.question_model.proofs.Orders.{are_terms, same_term}
 use Rattle.question_model.specs.declared.answer.Answer.{Answer}
 

@@ -3,20 +3,14 @@ use Rattle.std.proofs.Common.{inl, inr, ◌≡◌, ℕ, zero, suc, ◌+◌, Bool
 use Rattle.std.specs.Prelude.{◌⊎◌}
 use Rattle.std.specs.List.{AllZip}
 use Rattle.easl_model.specs.Form.{Form}
-use Rattle.easl_model.specs.Statements.{statements_of}
+use Rattle.easl_model.specs.{statements_of}
 use Rattle.easl_model.specs.declared.form.Method.{Method}
 use Rattle.easl_heap.specs.Body as told
-use Rattle.easl_heap.specs.Full.{IsGiven}
-use Rattle.easl_heap.specs.Heap.{Object, IsFull, IsObjectOf}
+use Rattle.easl_heap.specs.{IsFull, IsGiven, IsObjectOf, Object}
 use Rattle.easl_heap.proofs.Called.{constructor_called, method_called}
-use Rattle.access_paths.specs.Fitting.{IsTermOf}
-use Rattle.access_paths.specs.Terms.{term}
-use Rattle.access_paths.specs.Variables.{AreObjects, arguments_in, variables_of}
-use Rattle.question_model.specs.Bodies.{Outcome, called, made, returned, run}
-use Rattle.question_model.specs.Questions.{arguments_of, variable}
+use Rattle.access_paths.specs.{AreObjects, IsTermOf, arguments_in, term, variables_of}
+use Rattle.question_model.specs.{Done, Outcome, arguments_of, called, made, returned, run, state, variable, ◌>>=◌}
 use Rattle.question_model.specs.Questions as told_of
-use Rattle.question_model.specs.Stage.{Done, ◌>>=◌}
-use Rattle.question_model.specs.States.{state}
 use Rattle.question_model.specs.declared.answer.Answer.{Answer}
 use Rattle.question_model.specs.declared.value.Value.{Value}
 use Rattle.question_model.proofs.Asking.{Agree, bound}

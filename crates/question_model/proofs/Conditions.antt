@@ -1,11 +1,12 @@
 -- A condition that is read on symbolic values is true where it is in the heap.
 use Rattle.std.proofs.Common.{◌≡◌, ℕ, ◌&&◌, ◌||◌, Bool, true, false, not, if◌then◌else◌, List, Option, ap, sym, ◌∙◌}
-use Rattle.easl_model.specs.Conditions.{Condition, Conditions, Same, Differ, All, Any, none, ◌▸◌}
+use Rattle.easl_model.specs.{Condition}
+use Rattle.easl_model.specs.Conditions.{Conditions, Same, Differ, All, Any, none, ◌▸◌}
 use Rattle.easl_model.specs.Form.{Form}
 use Rattle.easl_heap.specs.Clause as clauses
-use Rattle.easl_heap.specs.Heap.{Object}
-use Rattle.question_model.specs.Stage.{Stage, Done}
-use Rattle.question_model.specs.States.{State, all_hold, any_holds, compared, holds}
+use Rattle.easl_heap.specs.{Object}
+use Rattle.question_model.specs.{Done, State, all_hold, any_holds, compared, holds}
+use Rattle.question_model.specs.Stage.{Stage}
 use Rattle.question_model.specs.declared.answer.Answer.{Answer}
 use Rattle.question_model.proofs.Asking.{Agree, bound}
 use Rattle.question_model.proofs.Following.{Follows, compared_so}

@@ -1,13 +1,11 @@
 -- The cube that is read after the body is true where it is in the heap that the body leaves.
 use Rattle.std.proofs.Common.{◌≡◌, ℕ, ◌==◌, ◌&&◌, Bool, true, false, not, if◌then◌else◌, List, [], ◌∷◌, fold, Option, slice_index, slice_index_or, ap, ap₂, sym, ◌∙◌}
 use Rattle.easl_model.specs.Form.{Form}
-use Rattle.easl_heap.specs.Heap.{Object, get}
-use Rattle.access_paths.specs.Truth.{by_objects, cube_holds, literal_holds, object_of}
+use Rattle.easl_heap.specs.{Object, get}
+use Rattle.access_paths.specs.{by_objects, cube_holds, literal_holds, object_of}
 use Rattle.access_paths.specs.declared.term.Literal.{Literal}
 use Rattle.access_paths.specs.declared.term.Term.{Term}
-use Rattle.question_model.specs.Questions.{cube_after, literal_after, term_after}
-use Rattle.question_model.specs.Stage.{Done, ◌>>=◌}
-use Rattle.question_model.specs.Values.{are_same}
+use Rattle.question_model.specs.{Done, are_same, cube_after, literal_after, term_after, ◌>>=◌}
 use Rattle.question_model.proofs.Asking.{Agree, bound}
 use Rattle.question_model.proofs.Meaning.{IsGood, Matches, Start, denote}
 use Rattle.question_model.proofs.Reading.{are_same_so, led_so}

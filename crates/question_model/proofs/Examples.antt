@@ -1,8 +1,8 @@
 -- The trees of two questions on sets and iterators: whether an iterator is stale after `add`, and whether `next` fails.
 use Rattle.std.proofs.Common.{◌≡◌, ℕ, true, false, List, [], ◌∷◌, Some, None, refl}
-use Rattle.easl_model.specs.Conditions.{Condition, Same}
+use Rattle.easl_model.specs.{Condition, Write, statement_of}
+use Rattle.easl_model.specs.Conditions.{Same}
 use Rattle.easl_model.specs.Form.{Form}
-use Rattle.easl_model.specs.Statements.{statement_of, Write}
 use Rattle.easl_model.specs.declared.form.Act.{Act}
 use Rattle.easl_model.specs.declared.form.Act.TheVariants as act
 use Rattle.easl_model.specs.declared.form.ClassForm.{ClassForm}
@@ -10,11 +10,9 @@ use Rattle.easl_model.specs.declared.form.Method.{Method}
 use Rattle.easl_model.specs.declared.form.Reach as path
 use Rattle.easl_model.specs.declared.form.Source.TheVariants.{Make}
 use Rattle.easl_model.proofs.Folds.{write_act}
-use Rattle.access_paths.specs.Terms.{term}
-use Rattle.access_paths.specs.Trees.{Leaf, Ask}
+use Rattle.access_paths.specs.{Ask, Leaf, term}
 use Rattle.access_paths.specs.declared.term.Family.{Family}
-use Rattle.question_model.specs.Questions.{fails, update}
-use Rattle.question_model.specs.Split.{IsTree}
+use Rattle.question_model.specs.{IsTree, fails, update}
 
 abbrev reach : ℕ → List ℕ → path.Reach
 reach slot fields = record { slot = slot; fields = fields }

@@ -3,13 +3,9 @@ use Rattle.std.proofs.Common.{◌≡◌, ℕ, zero, suc, ◌==◌, Bool, List, [
 use Rattle.easl_model.specs.Form.{Form}
 use Rattle.easl_model.specs.declared.form.Reach as path
 use Rattle.easl_heap.specs.Body as told
-use Rattle.easl_heap.specs.Full.{KeepsClasses}
-use Rattle.easl_heap.specs.Heap.{Object, get}
+use Rattle.easl_heap.specs.{KeepsClasses, Object, get}
 use Rattle.easl_heap.specs.Heap as heap_of
-use Rattle.question_model.specs.Bodies.{Outcome}
-use Rattle.question_model.specs.Stage.{Done, ◌>>=◌}
-use Rattle.question_model.specs.States.{State, compared, reached}
-use Rattle.question_model.specs.Values.{are_same}
+use Rattle.question_model.specs.{Done, Outcome, State, are_same, compared, reached, ◌>>=◌}
 use Rattle.question_model.specs.declared.answer.Answer.{Answer}
 use Rattle.question_model.specs.declared.value.Value.TheVariants.{Nothing}
 use Rattle.question_model.specs.declared.value.Value.{Value}

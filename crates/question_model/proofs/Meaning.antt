@@ -1,10 +1,8 @@
 -- What symbolic values and writes stand for in a heap.
 use Rattle.std.proofs.Common.{◌≡◌, ℕ, suc, ◌+◌, ◌==◌, ◌&&◌, if◌then◌else◌, List, [], ◌∷◌, length, Option, Some, slice_get, slice_index}
 use Rattle.easl_model.specs.Form.{Form}
-use Rattle.easl_heap.specs.Full.{KeepsClasses}
-use Rattle.easl_heap.specs.Heap.{Object, IsFull, IsObjectOf, get}
-use Rattle.access_paths.specs.Fitting.{IsTermOf}
-use Rattle.access_paths.specs.Truth.{object_of}
+use Rattle.easl_heap.specs.{IsFull, IsObjectOf, KeepsClasses, Object, get}
+use Rattle.access_paths.specs.{IsTermOf, object_of}
 use Rattle.easl_heap.proofs.Reading.{AreWide}
 use Rattle.question_model.specs.declared.value.Value.TheVariants.{Before, Fresh, Nothing}
 use Rattle.question_model.specs.declared.value.Value.{Value}

@@ -5,9 +5,9 @@ use Rattle.std.specs.Cmp.Lexicographic.{bytes_decides, nat_list_cmp_total, slice
 use Rattle.std.specs.declared.cmp.Ordering.{Ordering}
 use Rattle.std.specs.declared.cmp.Ordering.TheVariants.{Less, Equal, Greater}
 use Rattle.std.specs.Ordering.{is_eq, nat_cmp, ordering_reverse, ordering_then}
-use Rattle.access_paths.specs.Terms.{compare_terms, term}
+use Rattle.access_paths.specs.{compare_terms, term}
 use Rattle.access_paths.specs.declared.term.Term.{Term}
-use Rattle.question_model.specs.Stage.{is_term}
+use Rattle.question_model.specs.{is_term}
 
 then_equal : (o p : Ordering) → ordering_then o p ≡ Equal → (o ≡ Equal) × (p ≡ Equal)
 then_equal Less p e = absurd (cc)

@@ -1,16 +1,13 @@
 -- Reading through the writes gives what the fields hold now.
 use Rattle.std.proofs.Common.{inl, inr, ◌≡◌, ℕ, zero, suc, ◌+◌, ◌<◌, Bool, true, false, ◌==◌, ◌&&◌, if◌then◌else◌, List, [], ◌∷◌, ◌++◌, length, fold, Option, Some, None, slice_get, slice_index, arith, refl, ap, sym, subst, ◌∙◌, true≢false, eq-eqb, eqb-true, ne_eqb}
-use Rattle.easl_model.specs.Form.{Form, fields_of}
-use Rattle.easl_heap.specs.Full.{FieldsLead}
-use Rattle.easl_heap.specs.Heap.{Object, IsObjectOf, get}
+use Rattle.easl_model.specs.{fields_of}
+use Rattle.easl_model.specs.Form.{Form}
+use Rattle.easl_heap.specs.{FieldsLead, IsObjectOf, Object, get}
 use Rattle.easl_heap.proofs.FullHeaps.{full_whole}
 use Rattle.easl_heap.proofs.Writes.{number_within, one_class}
-use Rattle.access_paths.specs.Fitting.{IsTermOf}
-use Rattle.access_paths.specs.Terms.{field}
-use Rattle.access_paths.specs.Truth.{object_of}
+use Rattle.access_paths.specs.{IsTermOf, field, object_of}
 use Rattle.access_paths.specs.declared.term.Term.{Term}
-use Rattle.question_model.specs.Stage.{Done, Long}
-use Rattle.question_model.specs.Values.{are_same, extended, field_of, is_found, is_write_of, led, may_grow, through, unwritten}
+use Rattle.question_model.specs.{Done, Long, are_same, extended, field_of, is_found, is_write_of, led, may_grow, through, unwritten}
 use Rattle.question_model.proofs.Asking.{Agree, ask_so, bound}
 use Rattle.easl_heap.proofs.Reading.{both_same, full_wide, get_beyond, get_no_field, same_both}
 use Rattle.question_model.proofs.Meaning.{AllGoodWrites, IsGood, IsGoodWrite, Matches, Start, after, denote}

@@ -2,22 +2,19 @@
 use Rattle.std.proofs.Common.{◌≡◌, ℕ, zero, suc, ◌+◌, ◌==◌, ◌&&◌, if◌then◌else◌, Bool, true, false, List, [], ◌∷◌, ◌++◌, length, map, take, Option, Some, None, slice_get, slice_set, arith, refl, ap, ap₂, sym, subst, ◌∙◌}
 use Rattle.std.proofs.lemmas.List.{length-map}
 use Rattle.std.proofs.lemmas.Option.{slice_get_within}
-use Rattle.easl_model.specs.Form.{Form, constructor_of, fields_of}
-use Rattle.easl_model.specs.Limits.{body_of}
-use Rattle.easl_model.specs.Statements.{Statement, Statements, Local, Change, Write, If, none, ◌▸◌}
+use Rattle.easl_model.specs.{Change, Local, Statement, Write, body_of, constructor_of, fields_of}
+use Rattle.easl_model.specs.Form.{Form}
+use Rattle.easl_model.specs.Statements.{Statements, If, none, ◌▸◌}
 use Rattle.easl_model.specs.declared.form.Reach as path
 use Rattle.easl_model.specs.declared.form.Source.{Source}
 use Rattle.easl_model.specs.declared.form.Source.TheVariants.{Reach, Make}
 use Rattle.easl_heap.specs.Body as told
-use Rattle.easl_heap.specs.Full.{KeepsClasses}
-use Rattle.easl_heap.specs.Heap.{Object, IsObjectOf, fresh, object_at, write}
+use Rattle.easl_heap.specs.{IsObjectOf, KeepsClasses, Object, fresh, object_at, write}
 use Rattle.easl_heap.specs.Heap as heap_of
 use Rattle.easl_heap.proofs.Whole.{adding_keeps, number_fresh, writing_keeps}
 use Rattle.easl_heap.proofs.Writes.{at_last, is_object, object_of, write_length}
-use Rattle.question_model.specs.Bodies.{Making, Outcome, argument, arguments, made, outcome, returned, run, step, value}
-use Rattle.question_model.specs.Stage.{Done, ◌>>=◌}
-use Rattle.question_model.specs.States.{State, ended, holds, reached, state}
-use Rattle.question_model.specs.Values.{written, written_in}
+use Rattle.question_model.specs.{Done, Making, Outcome, State, argument, arguments, ended, holds, made, outcome, reached, returned, run, state, step, value}
+use Rattle.question_model.specs.{written, written_in, ◌>>=◌}
 use Rattle.question_model.specs.declared.answer.Answer.{Answer}
 use Rattle.question_model.specs.declared.value.Value.TheVariants.{Before, Fresh, Nothing}
 use Rattle.question_model.specs.declared.value.Value.{Value}

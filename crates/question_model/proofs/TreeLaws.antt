@@ -1,10 +1,10 @@
 -- Each question has one tree, and none where a term would be too long.
 use Rattle.std.proofs.Common.{◌≡◌, Bool, true, false, List, [], ◌∷◌, ◌++◌, ap, sym, subst, ◌∙◌}
-use Rattle.access_paths.specs.Trees.{Tree, Leaf, Ask}
+use Rattle.access_paths.specs.{Ask, Leaf}
+use Rattle.access_paths.specs.Trees.{Tree}
 use Rattle.access_paths.specs.declared.term.Term.{Term}
-use Rattle.question_model.specs.Split.{IsLongBehind, IsTreeBehind, further, here, said}
-use Rattle.question_model.specs.Stage.{Stage, Done, Needs, Long}
-use Rattle.question_model.specs.Asked.{OneTree, TreeOrLong}
+use Rattle.question_model.specs.{Done, IsLongBehind, IsTreeBehind, Long, Needs, OneTree, TreeOrLong, further, here, said}
+use Rattle.question_model.specs.Stage.{Stage}
 use Rattle.question_model.specs.declared.answer.Answer.{Answer}
 
 module _ (question : List Answer → Stage Bool) where

@@ -1,25 +1,21 @@
 -- The law on bodies.
 use Rattle.std.proofs.Common.{◌≡◌, ℕ, zero, suc, ◌<◌, ◌==◌, ◌/◌, ◌%◌, Bool, true, false, not, if◌then◌else◌, List, [], ◌∷◌, ◌++◌, map, Option, Some, None, slice_get, slice_index, arith, refl, ap, sym, subst, ◌∙◌}
 use Rattle.std.specs.Prelude.{All}
-use Rattle.easl_model.specs.Conditions.{Condition}
+use Rattle.easl_model.specs.{Condition}
 use Rattle.easl_model.specs.Form.{Form}
 use Rattle.easl_model.specs.declared.form.Method.{Method}
 use Rattle.easl_heap.specs.Body as told
 use Rattle.easl_heap.specs.Clause as clauses
-use Rattle.easl_heap.specs.Heap.{Object, IsFull}
-use Rattle.access_paths.specs.Fitting.{Fits, IsLiteralOf}
-use Rattle.access_paths.specs.Trees.{Tree, Leaf, Ask, answer}
-use Rattle.access_paths.specs.Truth.{by_objects, cube_holds}
-use Rattle.access_paths.specs.Variables.{AreObjects, arguments_in, before_call, no_family, put, variables_of}
+use Rattle.easl_heap.specs.{IsFull, Object}
+use Rattle.access_paths.specs.{AreObjects, Ask, Fits, IsLiteralOf, Leaf, answer, arguments_in, before_call, by_objects, cube_holds, no_family, put}
+use Rattle.access_paths.specs.{variables_of}
+use Rattle.access_paths.specs.Trees.{Tree}
 use Rattle.access_paths.specs.declared.term.Family.{Family}
 use Rattle.access_paths.specs.declared.term.Literal.{Literal}
 use Rattle.access_paths.specs.declared.term.Term.{Term}
-use Rattle.question_model.specs.Bodies.{Outcome, called}
-use Rattle.question_model.specs.Law.{ClauseLaw, UpdateLaw}
-use Rattle.question_model.specs.Questions.{after_call, arguments_of, cube_after, fails, update, variable}
-use Rattle.question_model.specs.Split.{IsTreeBehind, said}
-use Rattle.question_model.specs.Stage.{Stage, Done}
-use Rattle.question_model.specs.States.{holds, state}
+use Rattle.question_model.specs.{ClauseLaw, Done, IsTreeBehind, Outcome, UpdateLaw, after_call, arguments_of, called, cube_after, fails, holds, said, state}
+use Rattle.question_model.specs.{update, variable}
+use Rattle.question_model.specs.Stage.{Stage}
 use Rattle.question_model.specs.declared.answer.Answer.{Answer}
 use Rattle.question_model.specs.declared.value.Value.{Value}
 use Rattle.question_model.proofs.Asking.{Agree, agree_more, bound}

@@ -1,13 +1,11 @@
 -- Laws on the trees of questions: how many there are, and which terms they ask.
 use Rattle.std.specs.Prelude.{◌≡◌, ℕ, ◌≤◌, Bool, List, Option, IfSome, length}
 use Rattle.std.specs.declared.cmp.Ordering.TheVariants.{Less}
-use Rattle.easl_model.specs.Conditions.{Condition}
+use Rattle.easl_model.specs.{Condition}
 use Rattle.easl_model.specs.Form.{Form}
 use Rattle.easl_model.specs.declared.form.Method.{Method}
-use Rattle.access_paths.specs.Fitting.{IsTermOf}
-use Rattle.access_paths.specs.Terms.{compare_terms}
-use Rattle.access_paths.specs.Trees.{Tree, Leaf, Ask}
-use Rattle.access_paths.specs.Variables.{before_call, no_family, variables_of}
+use Rattle.access_paths.specs.{Ask, IsTermOf, Leaf, before_call, compare_terms, no_family, variables_of}
+use Rattle.access_paths.specs.Trees.{Tree}
 use Rattle.access_paths.specs.declared.term.Family.{Family}
 use Rattle.access_paths.specs.declared.term.Term.{Term}
 use Rattle.question_model.specs.Questions.{fails, update}

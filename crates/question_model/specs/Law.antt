@@ -1,16 +1,12 @@
 -- The law on bodies: the tree's answer by a full heap's own equalities is the truth of the cube after the body, and of
 -- a clause's question that the clause is false.
 use Rattle.std.specs.Prelude.{◌≡◌, ℕ, not, List, Option}
-use Rattle.easl_model.specs.Conditions.{Condition}
+use Rattle.easl_model.specs.{Condition}
 use Rattle.easl_model.specs.Form.{Form}
 use Rattle.easl_model.specs.declared.form.Method.{Method}
-use Rattle.easl_heap.specs.Body.{called}
-use Rattle.easl_heap.specs.Clause.{holds}
-use Rattle.easl_heap.specs.Heap.{Object, IsFull}
-use Rattle.access_paths.specs.Fitting.{Fits}
-use Rattle.access_paths.specs.Trees.{Tree, answer}
-use Rattle.access_paths.specs.Truth.{by_objects, cube_holds}
-use Rattle.access_paths.specs.Variables.{AreObjects, arguments_in, before_call, no_family, put, variables_of}
+use Rattle.easl_heap.specs.{IsFull, Object, called, holds}
+use Rattle.access_paths.specs.{AreObjects, Fits, answer, arguments_in, before_call, by_objects, cube_holds, no_family, put, variables_of}
+use Rattle.access_paths.specs.Trees.{Tree}
 use Rattle.access_paths.specs.declared.term.Family.{Family}
 use Rattle.question_model.specs.Questions.{fails, update}
 use Rattle.question_model.specs.Split.{IsTree}

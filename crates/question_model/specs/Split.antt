@@ -1,6 +1,7 @@
 -- The tree of a question, which is given by what each list of answers comes to.
 use Rattle.std.specs.Prelude.{◌≡◌, Bool, true, false, List, [], ◌∷◌, ◌++◌}
-use Rattle.access_paths.specs.Trees.{Tree, Leaf, Ask}
+use Rattle.access_paths.specs.{Ask, Leaf}
+use Rattle.access_paths.specs.Trees.{Tree}
 use Rattle.access_paths.specs.declared.term.Term.{Term}
 use Rattle.question_model.specs.Stage.{Stage, Done, Needs, Long}
 use Rattle.question_model.specs.declared.answer.Answer.{Answer}

@@ -4,7 +4,7 @@ use Rattle.std.specs.Prelude.{Bool, true, List, [], ◌∷◌, ◌&&◌, if◌th
 use Rattle.std.specs.declared.cmp.Ordering.{Ordering}
 use Rattle.std.specs.declared.cmp.Ordering.TheVariants.{Less, Equal, Greater}
 use Rattle.std.specs.Ordering.{is_eq}
-use Rattle.access_paths.specs.Terms.{compare_terms}
+use Rattle.access_paths.specs.{compare_terms}
 use Rattle.access_paths.specs.declared.term.Term.{Term}
 use Rattle.question_model.specs.declared.answer.Answer.{Answer}
 

@@ -1,6 +1,7 @@
 -- A body under way on symbolic values, and what its paths and conditions come to there.
 use Rattle.std.specs.Prelude.{ℕ, Bool, true, false, not, List, Option, if◌then◌else◌, length, slice_index_or, take}
-use Rattle.easl_model.specs.Conditions.{Condition, Conditions, Same, Differ, All, Any, none, ◌▸◌}
+use Rattle.easl_model.specs.{Condition}
+use Rattle.easl_model.specs.Conditions.{Conditions, Same, Differ, All, Any, none, ◌▸◌}
 use Rattle.easl_model.specs.Form.{Form}
 use Rattle.easl_model.specs.declared.form.Reach.{Reach}
 use Rattle.question_model.specs.Stage.{Stage, Done, ◌>>=◌}

@@ -1,7 +1,8 @@
 -- Symbolic values, the fields written so far, and what paths lead to through them.
 use Rattle.std.specs.Prelude.{◌==◌, ℕ, Bool, true, false, ◌&&◌, List, [], ◌∷◌, Option, Some, None, if◌then◌else◌, length, nat_lt, slice_get}
-use Rattle.easl_model.specs.Form.{Form, fields_of}
-use Rattle.access_paths.specs.Terms.{field}
+use Rattle.easl_model.specs.{fields_of}
+use Rattle.easl_model.specs.Form.{Form}
+use Rattle.access_paths.specs.{field}
 use Rattle.access_paths.specs.declared.term.Term.{Term}
 use Rattle.question_model.specs.Stage.{Stage, Done, Long, ask, ◌>>=◌}
 use Rattle.question_model.specs.declared.answer.Answer.{Answer}

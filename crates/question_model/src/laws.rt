@@ -1,6 +1,5 @@
 //! Laws on questions, as the contracts of functions that do nothing.
-ghost use Rattle.question_model.specs.Asked.{ClauseAsksTerms, OneTree, TreeOrLong, UpdateAsksTerms};
-ghost use Rattle.question_model.specs.Law.{ClauseLaw, UpdateLaw};
+ghost use Rattle.question_model.specs.{ClauseAsksTerms, ClauseLaw, OneTree, TreeOrLong, UpdateAsksTerms, UpdateLaw};
 
 /// In a full heap the tree's answer by the heap's own equalities is the truth of the cube after the body.
 #[tactic(auto, using(crate::proofs::Truths::update_law))]

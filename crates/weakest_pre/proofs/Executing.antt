@@ -1,19 +1,17 @@
 -- Constructions and calls, as the code makes them.
 use Rattle.std.proofs.Common.{◌≡◌, ℕ, zero, suc, ◌+◌, ◌-◌, ◌<◌, ◌≤◌, Bool, true, false, if◌then◌else◌, List, [], ◌∷◌, length, get_or, Some, slice_get, arith, refl, ap, ap₂, sym, subst, ◌∙◌}
 use Rattle.std.specs.Prelude.{Result}
-use Rattle.easl_model.specs.Conditions.{Condition}
-use Rattle.easl_model.specs.Form.{Form, constructor_of}
-use Rattle.easl_model.specs.Limits.{written_by, written_in}
-use Rattle.easl_model.specs.Statements.{Statement, Statements, If, statement_of, statements_of}
+use Rattle.easl_model.specs.{Condition, Statement, constructor_of, statement_of, statements_of, written_by, written_in}
+use Rattle.easl_model.specs.Form.{Form}
+use Rattle.easl_model.specs.Statements.{Statements, If}
 use Rattle.easl_model.specs.declared.form.Act.{Act}
 use Rattle.easl_model.specs.declared.form.Method.{Method}
 use Rattle.easl_heap.proofs.Called.{body_found}
 use Rattle.access_paths.specs.declared.term.Family.{Family}
 use Rattle.access_paths.specs.declared.term.Literal.{Literal}
-use Rattle.question_model.specs.Bodies.{Making, Outcome, called, made, outcome, returned, run, step}
-use Rattle.question_model.specs.Questions.{after_call, arguments_of, cube_after, update}
-use Rattle.question_model.specs.Stage.{Stage, Done, ◌>>=◌}
-use Rattle.question_model.specs.States.{State, holds, state}
+use Rattle.question_model.specs.{Done, Making, Outcome, State, after_call, arguments_of, called, cube_after, holds, made, outcome, returned, run, state, step}
+use Rattle.question_model.specs.{update, ◌>>=◌}
+use Rattle.question_model.specs.Stage.{Stage}
 use Rattle.question_model.specs.declared.answer.Answer.{Answer}
 use Rattle.question_model.specs.declared.value.Value.{Value}
 use Rattle.question_model.specs.declared.value.Value.TheVariants.{Fresh}

@@ -3,12 +3,11 @@ use Rattle.std.proofs.Common.{◌≡◌, ℕ, ◌-◌, ◌≤◌, List, [], ◌�
 use Rattle.std.specs.Prelude.{Result, Ok, Err, IfOk}
 use Rattle.std.proofs.Math.Seq.{take-append_seam}
 use Rattle.std.proofs.lemmas.Option.{slice_get_within}
-use Rattle.easl_model.specs.Conditions.{Condition, condition_of}
+use Rattle.easl_model.specs.{Condition, condition_of}
 use Rattle.easl_model.specs.Form.{Form}
 use Rattle.easl_model.specs.declared.form.Method.{Method}
 use Rattle.easl_model.specs.declared.form.Test.{Test}
-use Rattle.access_paths.specs.Fitting.{Fits}
-use Rattle.access_paths.specs.Trees.{tree_of}
+use Rattle.access_paths.specs.{Fits, tree_of}
 use Rattle.access_paths.specs.declared.term.Family.{Family}
 use Rattle.access_paths.specs.declared.tree.SplitFault.{SplitFault}
 use Rattle.access_paths.specs.declared.tree.Tree.{Tree}

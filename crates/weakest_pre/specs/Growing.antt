@@ -1,16 +1,15 @@
 -- The trees of questions, as the code grows them.
 use Rattle.std.specs.Prelude.{◌≡◌, ℕ, ◌-◌, ◌<◌, Bool, List, [], Some, Result, Ok, Err, slice_get}
-use Rattle.easl_model.specs.Conditions.{Condition}
+use Rattle.easl_model.specs.{Condition}
 use Rattle.easl_model.specs.Form.{Form}
 use Rattle.easl_model.specs.declared.form.Method.{Method}
 use Rattle.easl_model.specs.declared.form.Test.{Test}
-use Rattle.access_paths.specs.Trees.{tree_of}
+use Rattle.access_paths.specs.{tree_of}
 use Rattle.access_paths.specs.declared.term.Family.{Family}
 use Rattle.access_paths.specs.declared.tree.SplitFault.{SplitFault}
 use Rattle.access_paths.specs.declared.tree.SplitFault.TheVariants.{Path, Memory}
 use Rattle.access_paths.specs.declared.tree.Tree.{Tree}
-use Rattle.question_model.specs.{fails, update}
-use Rattle.question_model.specs.Split.{IsLongBehind, IsTreeBehind}
+use Rattle.question_model.specs.{IsLongBehind, IsTreeBehind, fails, update}
 use Rattle.question_model.specs.Stage.{Stage}
 use Rattle.question_model.specs.declared.answer.Answer.{Answer}
 use Rattle.weakest_pre.specs.Running.{most}

@@ -1,8 +1,7 @@
 -- What the code has come to, in the words of the questions' meaning.
 use Rattle.std.specs.Prelude.{◌≡◌, ℕ, List, Option, Some, Vec, Result, Ok, Err}
-use Rattle.question_model.specs.Bodies.{Outcome, outcome}
-use Rattle.question_model.specs.Stage.{Stage, Done, Needs, Long, ◌>>=◌}
-use Rattle.question_model.specs.States.{State, ended}
+use Rattle.question_model.specs.{Done, Long, Needs, Outcome, State, ended, outcome, ◌>>=◌}
+use Rattle.question_model.specs.Stage.{Stage}
 use Rattle.question_model.specs.declared.value.Value.{Value}
 use Rattle.question_model.specs.declared.value.Write.{Write}
 use Rattle.weakest_pre.specs.declared.stop.Stop.{Stop}

@@ -1,11 +1,9 @@
 //! Bodies on symbolic values, statement by statement. A constructor that is called is executed in place.
 ghost use Rattle.std.specs.Prelude.{◌≡◌, ◌<◌, ◌≤◌, [], ◌∷◌, ◌++◌, IfOk, IfSome, OnOk, length, slice_set};
-ghost use Rattle.easl_model.specs.Form.{ActInRange, ActsInRange, MethodInRange, SourceInRange};
-ghost use Rattle.easl_model.specs.Limits.{MethodKeepsLimits, written_by, written_in};
-ghost use Rattle.easl_model.specs.Statements.{statement_of, statements_of};
-ghost use Rattle.question_model.specs.Bodies.{outcome, made};
+ghost use Rattle.easl_model.specs.{ActInRange, ActsInRange, MethodInRange, MethodKeepsLimits, SourceInRange, statement_of, statements_of, written_by};
+ghost use Rattle.easl_model.specs.{written_in};
+ghost use Rattle.question_model.specs.{made, outcome, state};
 ghost use Rattle.question_model.specs.Bodies as told;
-ghost use Rattle.question_model.specs.States.{state};
 ghost use Rattle.weakest_pre.specs.Running.{Gives, GivesItems, GivesTo, Leaves, closed, most};
 
 use crate::branch::Branch;

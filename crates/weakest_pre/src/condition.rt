@@ -1,7 +1,7 @@
 //! What paths and conditions come to in a body under way.
 ghost use Rattle.std.specs.Prelude.{◌≡◌, map};
-ghost use Rattle.easl_model.specs.Conditions.{condition_of, conditions};
-ghost use Rattle.question_model.specs.States.{state};
+ghost use Rattle.easl_model.specs.{condition_of, conditions};
+ghost use Rattle.question_model.specs.{state};
 ghost use Rattle.question_model.specs.States as told;
 ghost use Rattle.weakest_pre.specs.Running.{Gives, most};
 

@@ -1,6 +1,6 @@
 //! What fields hold after some writes. Writes stand with the newest first.
 ghost use Rattle.std.specs.Prelude.{◌≡◌, ◌∷◌, OnOk, slice_get};
-ghost use Rattle.easl_model.specs.Form.{fields_of};
+ghost use Rattle.easl_model.specs.{fields_of};
 ghost use Rattle.question_model.specs.Values as told;
 ghost use Rattle.weakest_pre.specs.Running.{Gives, most};
 

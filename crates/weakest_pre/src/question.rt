@@ -1,8 +1,6 @@
 //! Questions, executed with the answers so far.
 ghost use Rattle.std.specs.Prelude.{◌≡◌, ◌==◌, ◌%◌, ◌≤◌, ◌++◌, IfOk, OnOk, if◌then◌else◌, length, slice_get};
-ghost use Rattle.easl_model.specs.Conditions.{condition_of};
-ghost use Rattle.easl_model.specs.Form.{MethodInRange};
-ghost use Rattle.easl_model.specs.Limits.{MethodKeepsLimits};
+ghost use Rattle.easl_model.specs.{MethodInRange, MethodKeepsLimits, condition_of};
 ghost use Rattle.question_model.specs.Questions as told;
 ghost use Rattle.weakest_pre.specs.Running.{Gives, most};
 

@@ -1,11 +1,9 @@
 //! The trees of update questions and of clause questions.
 ghost use Rattle.std.specs.Prelude.{◌≡◌, ◌-◌, ◌<◌, ◌≤◌, Some, length, slice_get, IfOk};
-ghost use Rattle.easl_model.specs.Conditions.{condition_of};
+ghost use Rattle.easl_model.specs.{condition_of};
 ghost use Rattle.easl_model.specs.declared.form.Method.{Method};
 ghost use Rattle.easl_model.specs.declared.form.Test.{Test};
-ghost use Rattle.access_paths.specs.Fitting.{Fits};
-ghost use Rattle.access_paths.specs.Trees.{tree_of};
-ghost use Rattle.access_paths.specs.Variables.{AreResults};
+ghost use Rattle.access_paths.specs.{AreResults, Fits, tree_of};
 ghost use Rattle.question_model.specs.{TellsAfter, TellsFalse};
 ghost use Rattle.weakest_pre.specs.{HasClause, IsClauseAt, IsClauseSplit, IsSplit};
 
@@ -28,8 +26,7 @@ struct Update<'a> {
 
 impl Question for Update<'_> {
     ghost use Rattle.std.specs.Prelude.{length};
-    ghost use Rattle.easl_model.specs.Form.{MethodInRange};
-    ghost use Rattle.easl_model.specs.Limits.{MethodKeepsLimits};
+    ghost use Rattle.easl_model.specs.{MethodInRange, MethodKeepsLimits};
     ghost use Rattle.question_model.specs.{update};
     ghost use Rattle.weakest_pre.specs.Running.{most};
 
@@ -57,8 +54,7 @@ struct Falsity<'a> {
 
 impl Question for Falsity<'_> {
     ghost use Rattle.std.specs.Prelude.{length};
-    ghost use Rattle.easl_model.specs.Conditions.{condition_of};
-    ghost use Rattle.easl_model.specs.Form.{MethodInRange};
+    ghost use Rattle.easl_model.specs.{MethodInRange, condition_of};
     ghost use Rattle.question_model.specs.{fails};
     ghost use Rattle.weakest_pre.specs.Running.{most};
 

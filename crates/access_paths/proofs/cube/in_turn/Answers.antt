@@ -1,7 +1,7 @@
 use Rattle.std.proofs.Common.{◌≡◌, ◌∙◌, ap, sym, Some, arith, slice_get}
 use Rattle.std.proofs.lemmas.Option.{slice_get_within}
 use Rattle.std.specs.Option.{option_copied}
-use Rattle.access_paths.specs.Terms.{compare_literals}
+use Rattle.access_paths.specs.{compare_literals}
 use Rattle.access_paths.proofs.InTurn.{slice_cmp_decided, slice_cmp_ended, slice_cmp_longer, slice_cmp_passed}
 use Rattle.access_paths.proofs.cube.in_turn.Goals as goal
 

@@ -1,6 +1,6 @@
 use Rattle.std.proofs.Common.{◌≡◌, ◌≤◌, length, drop}
 use Rattle.std.specs.Cmp.Lexicographic.{slice_cmp}
-use Rattle.access_paths.specs.Terms.{compare_literals}
+use Rattle.access_paths.specs.{compare_literals}
 use Rattle.access_paths.proofs.cube.in_turn.Given as goal
 
 abbrev pub invariant-each : goal.invariant-each

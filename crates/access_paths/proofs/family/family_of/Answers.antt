@@ -2,8 +2,7 @@ use Rattle.std.proofs.Common.{◌≡◌, ◌≤◌, ◌∙◌, List, All, length
 use Rattle.std.proofs.lemmas.Result.{IfOk-weaker}
 use Rattle.access_paths.proofs.Leasts.{as_many_arguments, least_is_family, orders_are_arguments}
 use Rattle.access_paths.proofs.Variables.{variables_listed}
-use Rattle.access_paths.specs.Arguments.{AreArguments, IsLeastAmong, orders, var, variables}
-use Rattle.access_paths.specs.Families.{IsFamilyOf}
+use Rattle.access_paths.specs.{AreArguments, IsFamilyOf, IsLeastAmong, orders, var, variables}
 use Rattle.access_paths.specs.declared.term.Var.{Var}
 use Rattle.access_paths.proofs.family.family_of.Goals as goal
 

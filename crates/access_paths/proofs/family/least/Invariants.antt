@@ -1,5 +1,5 @@
 use Rattle.std.proofs.Common.{take}
-use Rattle.access_paths.specs.Arguments.{IsLeastAmong}
+use Rattle.access_paths.specs.{IsLeastAmong}
 use Rattle.access_paths.proofs.family.least.Given as goal
 
 abbrev pub invariant-each : goal.invariant-each

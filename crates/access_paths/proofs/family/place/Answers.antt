@@ -1,7 +1,7 @@
 use Rattle.std.proofs.Common.{◌==◌, sym, arith}
 use Rattle.std.proofs.lemmas.Bool.{eq-eqb}
 use Rattle.std.proofs.lemmas.List.Sums.{position_or_len_is}
-use Rattle.access_paths.specs.Arguments.{var}
+use Rattle.access_paths.specs.{var}
 use Rattle.access_paths.specs.declared.term.Var.{Var}
 use Rattle.access_paths.proofs.family.place.Goals as goal
 

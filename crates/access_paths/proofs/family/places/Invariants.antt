@@ -1,6 +1,5 @@
 use Rattle.std.proofs.Common.{◌≡◌, map}
-use Rattle.access_paths.specs.Arguments.{below, var}
-use Rattle.access_paths.specs.Families.{place_of}
+use Rattle.access_paths.specs.{below, place_of, var}
 use Rattle.access_paths.proofs.family.places.Given as goal
 
 abbrev pub invariant-each : goal.invariant-each

@@ -1,6 +1,6 @@
 use Rattle.std.proofs.Common.{◌≡◌, filter, map}
 use Rattle.std.specs.List.{list_any}
-use Rattle.access_paths.specs.Arguments.{below, has, var}
+use Rattle.access_paths.specs.{below, has, var}
 use Rattle.access_paths.proofs.family.variables_of.Given as goal
 
 abbrev pub invariant-each : goal.invariant-each

@@ -1,6 +1,6 @@
 use Rattle.std.proofs.Common.{◌≡◌, ◌++◌, map}
 use Rattle.std.specs.List.{insert}
-use Rattle.access_paths.specs.Arguments.{below}
+use Rattle.access_paths.specs.{below}
 use Rattle.access_paths.proofs.permutations.insert_everywhere.Given as goal
 
 abbrev pub invariant-each : goal.invariant-each

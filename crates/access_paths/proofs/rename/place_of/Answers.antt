@@ -4,7 +4,7 @@ use Rattle.std.specs.declared.cmp.Ordering.TheVariants.{Less}
 use Rattle.access_paths.proofs.Ascending.{equal_is, greater_turned}
 use Rattle.access_paths.proofs.Exact.{literals_exact}
 use Rattle.access_paths.proofs.Members.{found_member}
-use Rattle.access_paths.specs.Terms.{compare_literals}
+use Rattle.access_paths.specs.{compare_literals}
 use Rattle.access_paths.proofs.rename.place_of.Goals as goal
 
 pub returns-then-is_eq-clause-there : goal.returns-then-is_eq-clause-there

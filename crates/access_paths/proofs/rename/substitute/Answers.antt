@@ -1,5 +1,5 @@
 use Rattle.access_paths.proofs.Substituted.{has_less, has_more, one_more_renamed, whole_renamed}
-use Rattle.access_paths.specs.Renaming.{variable_in}
+use Rattle.access_paths.specs.{variable_in}
 use Rattle.access_paths.proofs.rename.substitute.Goals as goal
 
 pub renamed-requires-clause-less : goal.renamed-requires-clause-less

@@ -1,6 +1,5 @@
 use Rattle.std.proofs.Common.{take}
-use Rattle.access_paths.specs.Adding.{AreRenamed}
-use Rattle.access_paths.specs.Renaming.{variable_in}
+use Rattle.access_paths.specs.{AreRenamed, variable_in}
 use Rattle.access_paths.proofs.rename.substitute.Given as goal
 
 abbrev pub invariant-each : goal.invariant-each

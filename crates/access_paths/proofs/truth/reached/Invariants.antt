@@ -1,7 +1,7 @@
 use Rattle.std.proofs.Common.{◌≡◌, drop}
 use Rattle.std.specs.List.{fold}
-use Rattle.easl_heap.specs.Heap.{get}
-use Rattle.access_paths.specs.Truth.{object_of}
+use Rattle.easl_heap.specs.{get}
+use Rattle.access_paths.specs.{object_of}
 use Rattle.access_paths.proofs.truth.reached.Given as goal
 
 abbrev pub invariant-each : goal.invariant-each

@@ -1,6 +1,6 @@
 use Rattle.std.proofs.Common.{[]}
-use Rattle.access_paths.specs.Trees.{tree_of}
-use Rattle.case_model.specs.TermLists.{terms_of_tree}
+use Rattle.access_paths.specs.{tree_of}
+use Rattle.case_model.specs.{terms_of_tree}
 use Rattle.alias_cases.proofs.Asked.{none_asked}
 use Rattle.alias_cases.proofs.asking.asked_terms.Goals as goal
 

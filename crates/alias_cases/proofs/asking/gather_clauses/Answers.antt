@@ -1,5 +1,5 @@
 use Rattle.std.proofs.Common.{rules, OnOk, subst, sym}
-use Rattle.alias_cases.specs.Gathering.{Gathers}
+use Rattle.alias_cases.specs.{Gathers}
 use Rattle.alias_cases.proofs.Asked.{asked_clauses}
 use Rattle.alias_cases.proofs.asking.gather_clauses.Goals as goal
 

@@ -1,7 +1,7 @@
 use Rattle.std.proofs.Common.{◌≡◌, Some, sym, subst, ◌∙◌}
 use Rattle.std.specs.Option.{option_copied}
-use Rattle.access_paths.specs.Trees.{tree_of}
-use Rattle.case_model.specs.TermLists.{HaveClasses, question_variables}
+use Rattle.access_paths.specs.{tree_of}
+use Rattle.case_model.specs.{HaveClasses, question_variables}
 use Rattle.alias_cases.proofs.Typed.{question_classes}
 use Rattle.alias_cases.proofs.asking.terms.Goals as goal
 

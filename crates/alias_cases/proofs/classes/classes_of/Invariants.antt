@@ -1,7 +1,7 @@
 use Rattle.std.proofs.Common.{◌≡◌, map, take}
 use Rattle.std.specs.Option.{option_copied}
-use Rattle.case_model.specs.TermLists.{question_variables}
-use Rattle.alias_cases.specs.Classes.{class_of_term}
+use Rattle.case_model.specs.{question_variables}
+use Rattle.alias_cases.specs.{class_of_term}
 use Rattle.alias_cases.proofs.classes.classes_of.Given as goal
 
 abbrev pub invariant-each : goal.invariant-each

@@ -1,8 +1,8 @@
 use Rattle.std.proofs.Common.{◌≡◌, [], ◌∷◌, OnOk, arith, ap, subst, sym, ◌∙◌}
 use Rattle.std.proofs.lemmas.List.{take_all}
-use Rattle.case_model.specs.TermLists.{term_of, terms_of_condition}
-use Rattle.easl_model.specs.Conditions.{condition_of}
-use Rattle.alias_cases.specs.Gathering.{Gathers}
+use Rattle.case_model.specs.{term_of, terms_of_condition}
+use Rattle.easl_model.specs.{condition_of}
+use Rattle.alias_cases.specs.{Gathers}
 use Rattle.alias_cases.proofs.Plain.{plain_all, plain_any, plain_differ, plain_same}
 use Rattle.alias_cases.proofs.OfTests.{terms_of_tests, tests_more}
 use Rattle.alias_cases.proofs.clauses.+gather_tests.Goals as goal

@@ -1,7 +1,7 @@
 use Rattle.std.proofs.Common.{map, take}
-use Rattle.case_model.specs.TermLists.{terms_of_conditions}
-use Rattle.easl_model.specs.Conditions.{condition_of, conditions}
-use Rattle.alias_cases.specs.Gathering.{Gathers}
+use Rattle.case_model.specs.{terms_of_conditions}
+use Rattle.easl_model.specs.{condition_of, conditions}
+use Rattle.alias_cases.specs.{Gathers}
 use Rattle.alias_cases.proofs.clauses.+gather_tests.Given as goal
 
 abbrev pub invariant-gather_tests-each : goal.invariant-gather_tests-each

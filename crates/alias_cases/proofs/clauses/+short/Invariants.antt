@@ -1,5 +1,5 @@
 use Rattle.std.proofs.Common.{◌≡◌, drop, map}
-use Rattle.easl_model.specs.Conditions.{condition_of, conditions}
+use Rattle.easl_model.specs.{condition_of, conditions}
 use Rattle.alias_cases.specs.Short as short
 use Rattle.alias_cases.proofs.clauses.+short.Given as goal
 

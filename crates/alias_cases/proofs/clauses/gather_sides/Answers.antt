@@ -1,5 +1,5 @@
 use Rattle.std.proofs.Common.{[], ◌∷◌}
-use Rattle.case_model.specs.TermLists.{term_of}
+use Rattle.case_model.specs.{term_of}
 use Rattle.alias_cases.proofs.Gathered.{gathers-both}
 use Rattle.alias_cases.proofs.clauses.gather_sides.Goals as goal
 

@@ -1,5 +1,5 @@
 use Rattle.std.proofs.Common.{◌≡◌, drop, length}
-use Rattle.alias_cases.specs.Levels.{led_to}
+use Rattle.alias_cases.specs.{led_to}
 use Rattle.alias_cases.proofs.fitting.led_to.Given as goal
 
 -- no step passed so far leads anywhere

@@ -1,5 +1,5 @@
 use Rattle.std.proofs.Common.{◌≡◌, ◌++◌, drop, length}
-use Rattle.alias_cases.specs.Levels.{open_blocks}
+use Rattle.alias_cases.specs.{open_blocks}
 use Rattle.alias_cases.proofs.fitting.open_blocks.Given as goal
 
 -- what was found, with what is found in the rest

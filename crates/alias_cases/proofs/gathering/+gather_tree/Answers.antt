@@ -1,7 +1,7 @@
 use Rattle.std.proofs.Common.{◌≡◌, ◌∷◌, ◌++◌, ap, subst, sym, ◌∙◌}
-use Rattle.access_paths.specs.Trees.{tree_of}
-use Rattle.case_model.specs.TermLists.{terms_of_tree}
-use Rattle.alias_cases.specs.Gathering.{Gathers}
+use Rattle.access_paths.specs.{tree_of}
+use Rattle.case_model.specs.{terms_of_tree}
+use Rattle.alias_cases.specs.{Gathers}
 use Rattle.alias_cases.proofs.Plain.{plain_ask}
 use Rattle.alias_cases.proofs.Gathered.{gathers-asked}
 use Rattle.alias_cases.proofs.gathering.+gather_tree.Goals as goal

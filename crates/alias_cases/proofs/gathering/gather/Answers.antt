@@ -1,5 +1,5 @@
 use Rattle.std.proofs.Common.{arith, ap, length, subst, [], ◌∷◌}
-use Rattle.alias_cases.specs.Gathering.{Gathers}
+use Rattle.alias_cases.specs.{Gathers}
 use Rattle.alias_cases.proofs.Gathered.{more_so, prefix_all, prefix_more, start_so}
 use Rattle.alias_cases.proofs.gathering.gather.Goals as goal
 

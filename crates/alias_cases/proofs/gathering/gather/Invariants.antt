@@ -1,6 +1,6 @@
 use Rattle.std.proofs.Common.{◌≡◌, [], ◌∷◌, take}
-use Rattle.access_paths.specs.Terms.{term}
-use Rattle.alias_cases.specs.Gathering.{Gathers}
+use Rattle.access_paths.specs.{term}
+use Rattle.alias_cases.specs.{Gathers}
 use Rattle.alias_cases.proofs.gathering.gather.Given as goal
 
 -- the prefix so far is gathered

@@ -1,5 +1,5 @@
 use Rattle.std.proofs.Common.{◌≡◌, ◌++◌, drop, take}
-use Rattle.alias_cases.specs.Gathering.{inserted}
+use Rattle.alias_cases.specs.{inserted}
 use Rattle.alias_cases.proofs.gathering.place_for.Given as goal
 
 -- it belongs behind those that are passed

@@ -1,8 +1,7 @@
 use Rattle.std.proofs.Common.{rules, arith, subst, sym, length-append, add-one}
 use Rattle.std.proofs.lemmas.Slice.Zip.{zip_end, zip_turn}
-use Rattle.case_model.specs.Configurations.{AreConfigurations, AreMoreThan}
-use Rattle.case_model.specs.TermLists.{IsTermList}
-use Rattle.alias_cases.specs.Steps.{AreSteps, IsClosed}
+use Rattle.case_model.specs.{AreConfigurations, AreMoreThan, IsTermList}
+use Rattle.alias_cases.specs.{AreSteps, IsClosed}
 use Rattle.alias_cases.proofs.Ladders.{closed}
 use Rattle.alias_cases.proofs.Levels.{first_level}
 use Rattle.alias_cases.proofs.Turns.{level_end, level_over, level_turn}

@@ -1,5 +1,5 @@
 use Rattle.std.proofs.Common.{◌≡◌, ◌≤◌, ◌++◌, length, take}
-use Rattle.alias_cases.specs.Levels.{extended}
+use Rattle.alias_cases.specs.{extended}
 use Rattle.alias_cases.proofs.listing.extend.Given as goal
 
 abbrev pub invariant-each : goal.invariant-each

@@ -1,5 +1,5 @@
 use Rattle.std.proofs.Common.{rules, arith, sym}
-use Rattle.alias_cases.specs.Levels.{extended, fitting_blocks}
+use Rattle.alias_cases.specs.{extended, fitting_blocks}
 use Rattle.alias_cases.proofs.Turns.{no_more}
 use Rattle.alias_cases.proofs.listing.next_level.Goals as goal
 

@@ -1,5 +1,5 @@
 use Rattle.std.proofs.Common.{◌≡◌, ◌≤◌, length, take}
-use Rattle.alias_cases.specs.Levels.{next_level}
+use Rattle.alias_cases.specs.{next_level}
 use Rattle.alias_cases.proofs.listing.next_level.Given as goal
 
 abbrev pub invariant-each : goal.invariant-each

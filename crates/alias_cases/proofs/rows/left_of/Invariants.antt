@@ -1,6 +1,6 @@
 use Rattle.std.proofs.Common.{◌≡◌, ◌↔◌, ℕ, take}
 use Rattle.std.specs.Int.{bit_at}
-use Rattle.alias_cases.specs.Rows.{AreAllSet}
+use Rattle.alias_cases.specs.{AreAllSet}
 use Rattle.alias_cases.proofs.rows.left_of.Given as goal
 
 abbrev pub invariant-each : goal.invariant-each

@@ -1,5 +1,5 @@
 use Rattle.std.proofs.Common.{◌≡◌, ◌+◌, drop}
-use Rattle.case_model.specs.Configurations.{place_of}
+use Rattle.case_model.specs.{place_of}
 use Rattle.alias_cases.proofs.rows.place_of.Given as goal
 
 -- it stands in the rest, if anywhere

@@ -1,5 +1,5 @@
 use Rattle.std.proofs.Common.{arith, sym}
-use Rattle.alias_cases.specs.Steps.{IsStepTo}
+use Rattle.alias_cases.specs.{IsStepTo}
 use Rattle.alias_cases.proofs.Turns.{zip_more}
 use Rattle.alias_cases.proofs.steps.steps_to.Goals as goal
 

@@ -1,6 +1,6 @@
 use Rattle.std.proofs.Common.{◌≡◌, ◌+◌, drop}
 use Rattle.access_paths.specs.Terms as told
-use Rattle.case_model.specs.Configurations.{place_of}
+use Rattle.case_model.specs.{place_of}
 use Rattle.cube_cover.proofs.blocks.place_of.Given as goal
 
 -- it stands in the rest, if anywhere

@@ -1,7 +1,7 @@
 use Rattle.std.proofs.Common.{◌≡◌, drop, map}
-use Rattle.easl_model.specs.Conditions.{conditions, condition_of}
+use Rattle.easl_model.specs.{condition_of, conditions}
 use Rattle.case_model.specs.Care as told
-use Rattle.case_model.specs.Configurations.{by_blocks}
+use Rattle.case_model.specs.{by_blocks}
 use Rattle.cube_cover.proofs.clauses.+condition.Given as goal
 
 -- what is left gives what the whole gives

@@ -1,8 +1,8 @@
 use Rattle.std.proofs.Common.{◌≡◌, drop, map}
 use Rattle.std.specs.List.{list_all}
-use Rattle.easl_model.specs.Conditions.{condition_of}
+use Rattle.easl_model.specs.{condition_of}
 use Rattle.case_model.specs.Care as told
-use Rattle.case_model.specs.Configurations.{by_blocks}
+use Rattle.case_model.specs.{by_blocks}
 use Rattle.cube_cover.proofs.clauses.are_true.Given as goal
 
 -- what is left gives what the whole gives

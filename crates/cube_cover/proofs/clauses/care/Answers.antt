@@ -1,7 +1,6 @@
 use Rattle.std.proofs.Common.{arith, length, sym, ap, ◌∙◌}
 use Rattle.std.proofs.lemmas.List.{take_all}
-use Rattle.case_model.specs.Care.{clauses_hold}
-use Rattle.case_model.specs.Configurations.{by_blocks}
+use Rattle.case_model.specs.{by_blocks, clauses_hold}
 use Rattle.cube_cover.proofs.Caring.{named_more, within_more}
 use Rattle.cube_cover.proofs.clauses.care.Goals as goal
 

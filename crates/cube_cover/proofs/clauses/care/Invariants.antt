@@ -1,7 +1,6 @@
 use Rattle.std.proofs.Common.{◌≡◌, ◌<◌, All, filter, length, take}
-use Rattle.case_model.specs.Care.{clauses_hold}
-use Rattle.case_model.specs.Configurations.{by_blocks}
-use Rattle.cube_cover.specs.Chosen.{configurations_at}
+use Rattle.case_model.specs.{by_blocks, clauses_hold}
+use Rattle.cube_cover.specs.{configurations_at}
 use Rattle.cube_cover.proofs.clauses.care.Given as goal
 
 abbrev pub invariant-each : goal.invariant-each

@@ -1,5 +1,5 @@
 use Rattle.std.proofs.Common.{◌≡◌, get_or, map, take}
-use Rattle.cube_cover.specs.Literals.{none_such}
+use Rattle.cube_cover.specs.{none_such}
 use Rattle.cube_cover.proofs.cover.cube_of.Given as goal
 
 abbrev pub invariant-each : goal.invariant-each

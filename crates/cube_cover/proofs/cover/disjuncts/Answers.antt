@@ -1,9 +1,7 @@
 use Rattle.std.proofs.Common.{rules, ◌≡◌, true, false}
-use Rattle.access_paths.specs.Trees.{tree_of}
-use Rattle.cube_cover.specs.Chosen.{configurations_at}
-use Rattle.cube_cover.specs.Literals.{cubes_of, literals_over}
+use Rattle.access_paths.specs.{tree_of}
+use Rattle.cube_cover.specs.{IsTaskOf, configurations_at, cubes_of, everywhere, literals_over}
 use Rattle.cube_search.specs.Truths.{IsRowOf}
-use Rattle.cube_cover.specs.Table.{IsTaskOf, everywhere}
 use Rattle.cube_cover.proofs.Ending.{all_together, falls_short, named_are, not_short, numbers_within, the_disjuncts}
 use Rattle.cube_cover.proofs.Standing.{as_long, as_many, none_empty}
 use Rattle.cube_cover.proofs.cover.disjuncts.Goals as goal

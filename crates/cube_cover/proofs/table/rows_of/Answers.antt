@@ -1,8 +1,7 @@
 use Rattle.std.proofs.Common.{arith, sym}
 use Rattle.alias_cases.proofs.Turns.{zip_more}
-use Rattle.cube_cover.specs.Chosen.{configurations_at}
+use Rattle.cube_cover.specs.{configurations_at, truths_of}
 use Rattle.cube_search.specs.Truths.{IsRowOf}
-use Rattle.cube_cover.specs.Table.{truths_of}
 use Rattle.cube_cover.proofs.table.rows_of.Goals as goal
 
 pub each-preserved : goal.each-preserved

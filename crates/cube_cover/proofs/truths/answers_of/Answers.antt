@@ -1,6 +1,6 @@
 use Rattle.std.proofs.Common.{List, ℕ, arith, ap, refl, slice_index, ◌∙◌}
-use Rattle.access_paths.specs.Trees.{answer, tree_of}
-use Rattle.case_model.specs.Configurations.{by_blocks}
+use Rattle.access_paths.specs.{answer, tree_of}
+use Rattle.case_model.specs.{by_blocks}
 use Rattle.cube_cover.proofs.Caring.{truth_more}
 use Rattle.cube_cover.proofs.truths.answers_of.Goals as goal
 

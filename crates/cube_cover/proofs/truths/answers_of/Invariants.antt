@@ -1,7 +1,6 @@
 use Rattle.std.proofs.Common.{◌≡◌, take}
-use Rattle.access_paths.specs.Trees.{tree_of}
-use Rattle.cube_cover.specs.Chosen.{configurations_at}
-use Rattle.cube_cover.specs.Table.{answers_of}
+use Rattle.access_paths.specs.{tree_of}
+use Rattle.cube_cover.specs.{answers_of, configurations_at}
 use Rattle.cube_cover.proofs.truths.answers_of.Given as goal
 
 abbrev pub invariant-each : goal.invariant-each

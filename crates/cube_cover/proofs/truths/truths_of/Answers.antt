@@ -1,6 +1,6 @@
 use Rattle.std.proofs.Common.{List, ℕ, arith, ap, refl, slice_index, ◌∙◌}
-use Rattle.access_paths.specs.Truth.{literal_holds}
-use Rattle.case_model.specs.Configurations.{by_blocks}
+use Rattle.access_paths.specs.{literal_holds}
+use Rattle.case_model.specs.{by_blocks}
 use Rattle.cube_cover.proofs.Caring.{truth_more}
 use Rattle.cube_cover.proofs.truths.truths_of.Goals as goal
 

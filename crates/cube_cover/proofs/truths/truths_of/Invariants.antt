@@ -1,6 +1,5 @@
 use Rattle.std.proofs.Common.{◌≡◌, take}
-use Rattle.cube_cover.specs.Chosen.{configurations_at}
-use Rattle.cube_cover.specs.Table.{truths_of}
+use Rattle.cube_cover.specs.{configurations_at, truths_of}
 use Rattle.cube_cover.proofs.truths.truths_of.Given as goal
 
 abbrev pub invariant-each : goal.invariant-each

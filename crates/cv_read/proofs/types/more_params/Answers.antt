@@ -1,7 +1,6 @@
 use Rattle.std.proofs.Common.{refl, ap, ◌∙◌}
-use Rattle.cv_read.specs.Read.{Got, next_at}
+use Rattle.cv_read.specs.{Got, next_at, param_at}
 use Rattle.cv_read.proofs.Along.{goes_on}
-use Rattle.cv_read.specs.Types.{param_at}
 use Rattle.cv_read.proofs.types.more_params.Goals as goal
 
 pub each-preserved : goal.each-preserved

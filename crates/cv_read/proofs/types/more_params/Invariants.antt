@@ -1,7 +1,6 @@
 use Rattle.std.proofs.Common.{length}
-use Rattle.cv_read.specs.Read.{next_at}
+use Rattle.cv_read.specs.{next_at, param_at}
 use Rattle.cv_read.proofs.Along.{IsAlong}
-use Rattle.cv_read.specs.Types.{param_at}
 use Rattle.cv_read.proofs.types.more_params.Given as goal
 
 abbrev pub invariant-each : goal.invariant-each

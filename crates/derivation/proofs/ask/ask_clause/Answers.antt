@@ -1,6 +1,6 @@
 use Rattle.std.proofs.Common.{None}
-use Rattle.access_paths.specs.Trees.{tree_of}
-use Rattle.easl_model.specs.Conditions.{condition_of}
+use Rattle.access_paths.specs.{tree_of}
+use Rattle.easl_model.specs.{condition_of}
 use Rattle.derivation.proofs.Replying.{clause_there, clause_typed, replied}
 use Rattle.derivation.proofs.ask.ask_clause.Goals as goal
 

@@ -1,4 +1,4 @@
-use Rattle.access_paths.specs.Trees.{tree_of}
+use Rattle.access_paths.specs.{tree_of}
 use Rattle.derivation.proofs.Replying.{update_tree_typed}
 use Rattle.derivation.proofs.ask.ask_update.Goals as goal
 

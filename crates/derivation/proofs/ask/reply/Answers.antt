@@ -1,9 +1,8 @@
 use Rattle.std.proofs.Common.{◌≡◌, All, Some, Err, ap, sym, subst, ◌∙◌}
 use Rattle.std.specs.List.{AllZip}
 use Rattle.std.specs.Option.{option_copied}
-use Rattle.access_paths.specs.Arguments.{HasKnownVariables}
-use Rattle.access_paths.specs.Terms.{IsCube}
-use Rattle.cube_cover.specs.Chosen.{configurations_at}
+use Rattle.access_paths.specs.{HasKnownVariables, IsCube}
+use Rattle.cube_cover.specs.{configurations_at}
 use Rattle.derivation.specs.Replies.{IsPredicateOf, classes_by_number}
 use Rattle.derivation.proofs.Replying.{are_cases, chosen_cubes, chosen_known, comes_to, has_tree, is_reply, with_clauses}
 use Rattle.derivation.proofs.ask.reply.Goals as goal

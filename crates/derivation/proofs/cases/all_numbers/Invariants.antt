@@ -1,5 +1,5 @@
 use Rattle.std.proofs.Common.{◌≡◌, ◌<◌, All, length, take}
-use Rattle.cube_cover.specs.Chosen.{configurations_at}
+use Rattle.cube_cover.specs.{configurations_at}
 use Rattle.derivation.proofs.cases.all_numbers.Given as goal
 
 abbrev pub invariant-each : goal.invariant-each

@@ -1,7 +1,7 @@
 use Rattle.std.proofs.Common.{◌+◌, take, sym, subst}
 use Rattle.std.specs.List.{AllZip}
 use Rattle.alias_cases.proofs.Turns.{zip_more}
-use Rattle.access_paths.specs.Arguments.{HasKnownVariables}
+use Rattle.access_paths.specs.{HasKnownVariables}
 use Rattle.derivation.specs.Replies.{IsPredicateOf}
 use Rattle.derivation.proofs.chosen.predicates.Goals as goal
 

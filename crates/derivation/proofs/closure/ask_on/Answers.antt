@@ -1,8 +1,8 @@
 use Rattle.std.proofs.Common.{◌≡◌, ◌+◌, All, Some, length, slice_get, ap, sym, subst, ◌∙◌}
 use Rattle.std.specs.Prelude.{MatchResult}
 use Rattle.std.proofs.lemmas.Option.{slice_get-get_or}
-use Rattle.access_paths.specs.Fitting.{Fits}
-use Rattle.method_abstraction.specs.Asking.{updates_by}
+use Rattle.access_paths.specs.{Fits}
+use Rattle.method_abstraction.specs.{updates_by}
 use Rattle.derivation.specs.Closing.{Stops}
 use Rattle.derivation.specs.Rounds.{AreNext, IsQuestion, IsSoFar}
 use Rattle.derivation.proofs.Questions.{updates_asked}

@@ -1,6 +1,6 @@
 use Rattle.std.proofs.Common.{◌≡◌, ◌+◌, All, [], length, sym, subst, ◌∙◌}
 use Rattle.derivation.specs.Rounds.{AreNext, IsQuestion, IsSoFar}
-use Rattle.method_abstraction.specs.Asking.{clause_questions}
+use Rattle.method_abstraction.specs.{clause_questions}
 use Rattle.derivation.proofs.Ending.{clauses_counted, clauses_next, none_asked}
 use Rattle.derivation.proofs.Questions.{clauses_asked}
 use Rattle.derivation.proofs.closure.asked_clauses.Goals as goal

@@ -1,5 +1,5 @@
 use Rattle.std.proofs.Common.{length, sym, subst}
-use Rattle.method_abstraction.specs.Asking.{questions}
+use Rattle.method_abstraction.specs.{questions}
 use Rattle.derivation.specs.Rounds.{IsSoFar}
 use Rattle.derivation.proofs.Ending.{all_closed}
 use Rattle.derivation.proofs.Entries.{closed_is_exact}

@@ -1,6 +1,5 @@
 use Rattle.std.proofs.Common.{◌≡◌, drop}
-use Rattle.easl_model.specs.BodyFaults.{after_all}
-use Rattle.easl_model.specs.Steps.{block_of}
+use Rattle.easl_model.specs.{after_all, block_of}
 use Rattle.easl_bodies.proofs.bodies.+advance.Given as goal
 
 abbrev pub invariant-behind_all-each : goal.invariant-behind_all-each

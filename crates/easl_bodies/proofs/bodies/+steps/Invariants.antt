@@ -1,7 +1,6 @@
 use Rattle.std.proofs.Common.{◌≡◌, drop}
-use Rattle.easl_model.specs.BodyFaults.{after_all, faults_of_block}
-use Rattle.easl_model.specs.Faults.{comes_before, first_with}
-use Rattle.easl_model.specs.Steps.{block_of}
+use Rattle.easl_model.specs.{after_all, block_of, faults_of_block, first_with}
+use Rattle.easl_model.specs.Faults.{comes_before}
 use Rattle.easl_bodies.proofs.bodies.+steps.Given as goal
 
 abbrev pub invariant-faults_of_steps-each : goal.invariant-faults_of_steps-each

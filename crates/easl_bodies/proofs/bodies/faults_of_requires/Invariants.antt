@@ -1,7 +1,6 @@
 use Rattle.std.proofs.Common.{◌≡◌, drop, map}
-use Rattle.easl_model.specs.BodyFaults.{faults_of_clauses}
-use Rattle.easl_model.specs.Clauses.{clause_of, clauses}
-use Rattle.easl_model.specs.Faults.{comes_before, first_with}
+use Rattle.easl_model.specs.{clause_of, clauses, faults_of_clauses, first_with}
+use Rattle.easl_model.specs.Faults.{comes_before}
 use Rattle.easl_bodies.proofs.bodies.faults_of_requires.Given as goal
 
 abbrev pub invariant-each : goal.invariant-each

@@ -1,7 +1,7 @@
 use Rattle.std.proofs.Common.{◌≡◌, ◌++◌, drop}
 use Rattle.std.specs.List.{filter}
 use Rattle.std.specs.Prelude.{◌||◌}
-use Rattle.easl_model.specs.Contexts.{is_unset}
+use Rattle.easl_model.specs.{is_unset}
 use Rattle.easl_bodies.proofs.context.unset_in_either.Given as goal
 
 abbrev pub invariant-each : goal.invariant-each

@@ -1,6 +1,6 @@
 use Rattle.std.proofs.Common.{◌≡◌, drop}
 use Rattle.std.specs.List.{position_from}
-use Rattle.easl_model.specs.Names.{is_same}
+use Rattle.easl_model.specs.{is_same}
 use Rattle.easl_bodies.proofs.context.variable_among.Given as goal
 
 abbrev pub invariant-each : goal.invariant-each

@@ -1,5 +1,5 @@
 use Rattle.std.proofs.Common.{◌≡◌, take, map}
-use Rattle.easl_model.specs.Contexts.{variable_of}
+use Rattle.easl_model.specs.{variable_of}
 use Rattle.easl_bodies.proofs.context.variables_of.Given as goal
 
 abbrev pub invariant-each : goal.invariant-each

@@ -1,5 +1,5 @@
 use Rattle.std.proofs.Common.{rules, get_or}
-use Rattle.easl_model.specs.Names.{is_same}
+use Rattle.easl_model.specs.{is_same}
 use Rattle.easl_model.proofs.Found.{other_is, same_is}
 use Rattle.easl_bodies.proofs.Walks.{found_here, passed_over}
 use Rattle.easl_bodies.proofs.names.class_among.Goals as goal

@@ -1,6 +1,5 @@
 use Rattle.std.proofs.Common.{◌≡◌, ◌≤◌, drop}
-use Rattle.easl_model.specs.Names.{fields_in}
-use Rattle.easl_model.specs.Names.{field_among}
+use Rattle.easl_model.specs.{field_among, fields_in}
 use Rattle.easl_bodies.proofs.names.field_among.Given as goal
 
 abbrev pub invariant-each : goal.invariant-each

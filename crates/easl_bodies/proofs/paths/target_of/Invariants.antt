@@ -1,5 +1,5 @@
 use Rattle.std.proofs.Common.{◌≡◌, drop, fold}
-use Rattle.easl_model.specs.Paths.{along, target_of}
+use Rattle.easl_model.specs.{along, target_of}
 use Rattle.easl_bodies.proofs.paths.target_of.Given as goal
 
 abbrev pub invariant-each : goal.invariant-each

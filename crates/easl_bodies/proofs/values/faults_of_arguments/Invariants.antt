@@ -1,6 +1,6 @@
 use Rattle.std.proofs.Common.{◌≡◌, drop}
-use Rattle.easl_model.specs.BodyFaults.{faults_of_arguments}
-use Rattle.easl_model.specs.Faults.{comes_before, first_with}
+use Rattle.easl_model.specs.{faults_of_arguments, first_with}
+use Rattle.easl_model.specs.Faults.{comes_before}
 use Rattle.easl_bodies.proofs.values.faults_of_arguments.Given as goal
 
 abbrev pub invariant-each : goal.invariant-each

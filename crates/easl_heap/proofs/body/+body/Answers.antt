@@ -1,9 +1,8 @@
 use Rattle.std.proofs.Common.{rules, arith, ap, ◌∙◌, List, Bor}
-use Rattle.easl_model.specs.Conditions.{condition_of}
-use Rattle.easl_model.specs.Statements.{statement_of, statements_of}
+use Rattle.easl_model.specs.{condition_of, statement_of, statements_of}
 use Rattle.easl_model.specs.declared.form.Act.{Act}
 use Rattle.easl_model.proofs.Folds.{if_act}
-use Rattle.easl_heap.specs.Body.{made, moment}
+use Rattle.easl_heap.specs.{made, moment}
 use Rattle.easl_heap.proofs.Branches.{branch_ended}
 use Rattle.easl_heap.proofs.Called.{constructed}
 use Rattle.easl_heap.proofs.Underway.{goes_on, stops}

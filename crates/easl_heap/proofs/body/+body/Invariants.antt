@@ -1,6 +1,5 @@
 use Rattle.std.proofs.Common.{◌+◌, ◌-◌, ◌*◌}
-use Rattle.easl_heap.specs.Executing.{Grows}
-use Rattle.easl_heap.specs.Body.{moment}
+use Rattle.easl_heap.specs.{Grows, moment}
 use Rattle.easl_heap.proofs.Underway.{InLimits, IsUnderWay}
 use Rattle.easl_heap.proofs.body.+body.Given as goal
 

@@ -1,5 +1,5 @@
 use Rattle.std.proofs.Common.{◌≡◌, ◌≤◌, length, map, take}
-use Rattle.easl_heap.specs.Body.{argument}
+use Rattle.easl_heap.specs.{argument}
 use Rattle.easl_heap.proofs.body.arguments.Given as goal
 
 abbrev pub invariant-each : goal.invariant-each

@@ -1,5 +1,5 @@
 use Rattle.std.proofs.Common.{arith, ap, length}
-use Rattle.easl_heap.specs.Body.{moment, outcome}
+use Rattle.easl_heap.specs.{moment, outcome}
 use Rattle.easl_heap.proofs.Called.{by_constructor, by_method}
 use Rattle.easl_heap.proofs.body.execute.Goals as goal
 

@@ -1,5 +1,5 @@
 use Rattle.std.proofs.Common.{arith}
-use Rattle.easl_heap.specs.Body.{moment, outcome}
+use Rattle.easl_heap.specs.{moment, outcome}
 use Rattle.easl_heap.proofs.Called.{not_returned}
 use Rattle.easl_heap.proofs.body.returned.Goals as goal
 

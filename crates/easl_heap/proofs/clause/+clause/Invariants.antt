@@ -1,5 +1,5 @@
 use Rattle.std.proofs.Common.{◌≡◌, drop, map}
-use Rattle.easl_model.specs.Conditions.{conditions, condition_of}
+use Rattle.easl_model.specs.{condition_of, conditions}
 use Rattle.easl_heap.specs.Clause as spec
 use Rattle.easl_heap.proofs.clause.+clause.Given as goal
 

@@ -1,7 +1,7 @@
 use Rattle.std.proofs.Common.{◌≡◌, ◌+◌, drop, map}
 use Rattle.std.specs.Prelude.{not}
 use Rattle.std.specs.List.{position_from}
-use Rattle.easl_model.specs.Conditions.{condition_of}
+use Rattle.easl_model.specs.{condition_of}
 use Rattle.easl_heap.specs.Clause as spec
 use Rattle.easl_heap.proofs.clause.first_false.Given as goal
 

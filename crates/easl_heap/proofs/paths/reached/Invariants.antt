@@ -1,6 +1,6 @@
 use Rattle.std.proofs.Common.{◌≡◌, drop}
 use Rattle.std.specs.List.{fold}
-use Rattle.easl_heap.specs.Heap.{get, reached}
+use Rattle.easl_heap.specs.{get, reached}
 use Rattle.easl_heap.proofs.paths.reached.Given as goal
 
 abbrev pub invariant-each : goal.invariant-each

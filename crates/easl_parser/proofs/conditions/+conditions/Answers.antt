@@ -1,5 +1,5 @@
 use Rattle.std.proofs.Common.{refl, ap, ◌∙◌}
-use Rattle.cv_read.specs.Read.{Got}
+use Rattle.cv_read.specs.{Got}
 use Rattle.cv_read.proofs.Along.{goes_on}
 use Rattle.easl_parser.specs.Reading.{atom_at, all_at, and_by, or_by}
 use Rattle.easl_parser.proofs.conditions.+conditions.Goals as goal

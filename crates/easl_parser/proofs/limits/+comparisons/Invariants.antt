@@ -1,6 +1,5 @@
 use Rattle.std.proofs.Common.{◌≡◌, drop, map}
-use Rattle.easl_model.specs.Clauses.{clause_of, clauses}
-use Rattle.easl_model.specs.TreeLimits.{comparisons_in}
+use Rattle.easl_model.specs.{clause_of, clauses, comparisons_in}
 use Rattle.easl_model.specs.declared.fault.Which.TheVariants as which
 use Rattle.easl_parser.specs.Tallies.{tally_of}
 use Rattle.easl_parser.proofs.limits.+comparisons.Given as goal

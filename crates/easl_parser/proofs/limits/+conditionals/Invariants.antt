@@ -1,6 +1,5 @@
 use Rattle.std.proofs.Common.{◌≡◌, drop}
-use Rattle.easl_model.specs.Steps.{block_of}
-use Rattle.easl_model.specs.TreeLimits.{conditionals_in}
+use Rattle.easl_model.specs.{block_of, conditionals_in}
 use Rattle.easl_model.specs.declared.fault.Which.TheVariants as which
 use Rattle.easl_parser.specs.Tallies.{tally_of}
 use Rattle.easl_parser.proofs.limits.+conditionals.Given as goal

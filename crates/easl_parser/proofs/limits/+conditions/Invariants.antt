@@ -1,7 +1,6 @@
 use Rattle.std.proofs.Common.{◌≡◌, drop, map}
 use Rattle.std.specs.List.{flat_map}
-use Rattle.easl_model.specs.Clauses.{clause_of, clauses}
-use Rattle.easl_model.specs.TreeLimits.{excess_of_path, paths_in}
+use Rattle.easl_model.specs.{clause_of, clauses, excess_of_path, paths_in}
 use Rattle.easl_parser.specs.Tallies.{first_from}
 use Rattle.easl_parser.proofs.limits.+conditions.Given as goal
 

@@ -1,6 +1,5 @@
 use Rattle.std.proofs.Common.{◌≡◌, drop}
-use Rattle.easl_model.specs.Steps.{block_of}
-use Rattle.easl_model.specs.TreeLimits.{excess_in}
+use Rattle.easl_model.specs.{block_of, excess_in}
 use Rattle.easl_parser.specs.Tallies.{first_from}
 use Rattle.easl_parser.proofs.limits.+paths.Given as goal
 

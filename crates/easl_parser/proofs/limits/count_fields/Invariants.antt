@@ -1,5 +1,5 @@
 use Rattle.std.proofs.Common.{◌≡◌, drop, map}
-use Rattle.easl_model.specs.Names.{fields_in}
+use Rattle.easl_model.specs.{fields_in}
 use Rattle.easl_model.specs.declared.fault.Which.TheVariants as which
 use Rattle.easl_parser.specs.Tallies.{tally_of}
 use Rattle.easl_parser.proofs.limits.count_fields.Given as goal

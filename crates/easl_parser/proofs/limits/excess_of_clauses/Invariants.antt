@@ -1,6 +1,6 @@
 use Rattle.std.proofs.Common.{◌≡◌, drop}
 use Rattle.std.specs.List.{flat_map}
-use Rattle.easl_model.specs.TreeLimits.{excess_of_clause}
+use Rattle.easl_model.specs.{excess_of_clause}
 use Rattle.easl_parser.specs.Tallies.{first_from}
 use Rattle.easl_parser.proofs.limits.excess_of_clauses.Given as goal
 

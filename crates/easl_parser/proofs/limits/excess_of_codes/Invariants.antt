@@ -1,7 +1,6 @@
 use Rattle.std.proofs.Common.{◌≡◌, drop}
 use Rattle.std.specs.List.{flat_map}
-use Rattle.easl_model.specs.Names.{codes_in}
-use Rattle.easl_model.specs.TreeLimits.{excess_of_code}
+use Rattle.easl_model.specs.{codes_in, excess_of_code}
 use Rattle.easl_parser.specs.Tallies.{first_from}
 use Rattle.easl_parser.proofs.limits.excess_of_codes.Given as goal
 

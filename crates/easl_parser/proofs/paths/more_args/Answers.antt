@@ -1,5 +1,5 @@
 use Rattle.std.proofs.Common.{refl, ap, ◌∙◌}
-use Rattle.cv_read.specs.Read.{Got, next_at}
+use Rattle.cv_read.specs.{Got, next_at}
 use Rattle.cv_read.proofs.Along.{goes_on}
 use Rattle.easl_parser.specs.Reading.{arg_at}
 use Rattle.easl_parser.proofs.paths.more_args.Goals as goal

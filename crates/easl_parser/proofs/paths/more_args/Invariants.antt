@@ -1,5 +1,5 @@
 use Rattle.std.proofs.Common.{length}
-use Rattle.cv_read.specs.Read.{next_at}
+use Rattle.cv_read.specs.{next_at}
 use Rattle.cv_read.proofs.Along.{IsAlong}
 use Rattle.easl_parser.specs.Reading.{arg_at}
 use Rattle.easl_parser.proofs.paths.more_args.Given as goal

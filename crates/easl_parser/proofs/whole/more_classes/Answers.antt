@@ -1,5 +1,5 @@
 use Rattle.std.proofs.Common.{refl, ap, ◌∙◌}
-use Rattle.cv_read.specs.Read.{Got}
+use Rattle.cv_read.specs.{Got}
 use Rattle.cv_read.proofs.Along.{goes_on}
 use Rattle.easl_parser.specs.Reading.{maybe_class_at}
 use Rattle.easl_parser.specs.declared.whole.TheConstants.{MOST_NESTED}

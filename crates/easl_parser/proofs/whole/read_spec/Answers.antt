@@ -1,6 +1,6 @@
 use Rattle.std.proofs.Common.{sym, subst, ◌∙◌}
 use Rattle.cv_read.specs.Answers.{Answers}
-use Rattle.easl_model.specs.Grammar.{IsSpec}
+use Rattle.easl_model.specs.{IsSpec}
 use Rattle.easl_parser.proofs.Limited.{within_answers}
 use Rattle.easl_parser.proofs.whole.read_spec.Goals as goal
 

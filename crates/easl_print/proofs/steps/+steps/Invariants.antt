@@ -1,6 +1,6 @@
 use Rattle.std.proofs.Common.{◌≡◌, drop}
-use Rattle.cv_layout.specs.Page.{after_lines}
-use Rattle.easl_model.specs.Steps.{block_of}
+use Rattle.cv_layout.specs.{after_lines}
+use Rattle.easl_model.specs.{block_of}
 use Rattle.easl_print.specs.Lines as lines
 use Rattle.easl_print.proofs.steps.+steps.Given as goal
 

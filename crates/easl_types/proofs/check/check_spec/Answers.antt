@@ -1,6 +1,6 @@
 use Rattle.std.proofs.Common.{◌≡◌, ◌∙◌, rules}
 use Rattle.std.specs.Prelude.{None}
-use Rattle.easl_model.specs.Rules.{first_fault}
+use Rattle.easl_model.specs.{first_fault}
 use Rattle.easl_types.proofs.Checking.{ArePartsOf, long_is, parts_are, parts_checked, tells}
 use Rattle.easl_types.proofs.check.check_spec.Goals as goal
 

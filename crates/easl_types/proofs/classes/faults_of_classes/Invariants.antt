@@ -1,8 +1,7 @@
 use Rattle.std.proofs.Common.{◌≡◌, drop}
 use Rattle.std.specs.List.{flat_map}
-use Rattle.easl_model.specs.Bodies.{bodies_from}
-use Rattle.easl_model.specs.BodyFaults.{faults_of_body}
-use Rattle.easl_model.specs.Faults.{comes_before, first_with}
+use Rattle.easl_model.specs.{bodies_from, faults_of_body, first_with}
+use Rattle.easl_model.specs.Faults.{comes_before}
 use Rattle.easl_types.proofs.classes.faults_of_classes.Given as goal
 
 abbrev pub invariant-each : goal.invariant-each

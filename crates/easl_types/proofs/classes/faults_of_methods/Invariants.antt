@@ -1,9 +1,7 @@
 use Rattle.std.proofs.Common.{◌≡◌, drop, map}
 use Rattle.std.specs.List.{flat_map}
-use Rattle.easl_model.specs.Bodies.{method_body}
-use Rattle.easl_model.specs.Names.{methods_in}
-use Rattle.easl_model.specs.BodyFaults.{faults_of_body}
-use Rattle.easl_model.specs.Faults.{comes_before, first_with}
+use Rattle.easl_model.specs.{faults_of_body, first_with, method_body, methods_in}
+use Rattle.easl_model.specs.Faults.{comes_before}
 use Rattle.easl_types.proofs.classes.faults_of_methods.Given as goal
 
 abbrev pub invariant-each : goal.invariant-each

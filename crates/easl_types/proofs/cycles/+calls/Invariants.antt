@@ -1,7 +1,6 @@
 use Rattle.std.proofs.Common.{◌≡◌, ◌++◌, drop}
 use Rattle.std.specs.List.{flat_map}
-use Rattle.easl_model.specs.Cycles.{news_in}
-use Rattle.easl_model.specs.Steps.{block_of}
+use Rattle.easl_model.specs.{block_of, news_in}
 use Rattle.easl_types.specs.Calls.{call_of}
 use Rattle.easl_types.proofs.cycles.+calls.Given as goal
 

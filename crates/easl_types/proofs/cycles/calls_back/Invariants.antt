@@ -1,6 +1,7 @@
 use Rattle.std.proofs.Common.{◌≡◌, drop}
 use Rattle.std.specs.List.{flat_map}
-use Rattle.easl_model.specs.Faults.{comes_before, first_with}
+use Rattle.easl_model.specs.{first_with}
+use Rattle.easl_model.specs.Faults.{comes_before}
 use Rattle.easl_types.specs.Calls.{calls_back}
 use Rattle.easl_types.proofs.cycles.calls_back.Given as goal
 

@@ -1,5 +1,6 @@
 use Rattle.std.proofs.Common.{◌≡◌, drop}
-use Rattle.easl_model.specs.Faults.{comes_before, first_of, first_with}
+use Rattle.easl_model.specs.{first_of, first_with}
+use Rattle.easl_model.specs.Faults.{comes_before}
 use Rattle.easl_types.specs.Calls.{cycles_over}
 use Rattle.easl_types.proofs.cycles.faults_of_calls.Given as goal
 

@@ -1,7 +1,5 @@
 use Rattle.std.proofs.Common.{◌≡◌, ◌++◌, drop}
-use Rattle.easl_model.specs.BodyFaults.{after_all}
-use Rattle.easl_model.specs.CheckedForm.{acts_of}
-use Rattle.easl_model.specs.Steps.{block_of}
+use Rattle.easl_model.specs.{acts_of, after_all, block_of}
 use Rattle.easl_types.proofs.form.+acts.Given as goal
 
 abbrev pub invariant-acts_of-each : goal.invariant-acts_of-each

@@ -1,6 +1,5 @@
 use Rattle.std.proofs.Common.{◌≡◌, ◌++◌, drop, map}
-use Rattle.easl_model.specs.Clauses.{clause_of, clauses}
-use Rattle.easl_model.specs.CheckedForm.{tests_of}
+use Rattle.easl_model.specs.{clause_of, clauses, tests_of}
 use Rattle.easl_types.proofs.form.+condition.Given as goal
 
 abbrev pub invariant-tests_of-each : goal.invariant-tests_of-each

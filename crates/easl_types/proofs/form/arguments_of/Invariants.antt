@@ -1,5 +1,5 @@
 use Rattle.std.proofs.Common.{◌≡◌, take, map}
-use Rattle.easl_model.specs.CheckedForm.{argument_of}
+use Rattle.easl_model.specs.{argument_of}
 use Rattle.easl_types.proofs.form.arguments_of.Given as goal
 
 abbrev pub invariant-each : goal.invariant-each

@@ -1,5 +1,5 @@
 use Rattle.std.proofs.Common.{◌≡◌, ◌++◌, drop}
-use Rattle.easl_model.specs.CheckedForm.{positions_along, reach_of}
+use Rattle.easl_model.specs.{positions_along, reach_of}
 use Rattle.easl_types.proofs.form.reach_of.Given as goal
 
 abbrev pub invariant-each : goal.invariant-each

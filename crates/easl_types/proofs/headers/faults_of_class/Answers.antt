@@ -1,9 +1,8 @@
 use Rattle.std.proofs.Common.{◌≡◌}
 use Rattle.std.specs.List.{flat_map}
 use Rattle.std.proofs.lemmas.Result.{IfOk-weaker}
-use Rattle.easl_model.specs.Faults.{comes_before, first_with}
-use Rattle.easl_model.specs.HeaderFaults.{faults_of_class, faults_of_header}
-use Rattle.easl_model.specs.Names.{codes_in}
+use Rattle.easl_model.specs.{codes_in, faults_of_class, faults_of_header, first_with}
+use Rattle.easl_model.specs.Faults.{comes_before}
 use Rattle.easl_types.proofs.Seconds.{all_of_class}
 use Rattle.easl_types.proofs.headers.faults_of_class.Goals as goal
 

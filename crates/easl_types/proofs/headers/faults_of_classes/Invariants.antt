@@ -1,7 +1,7 @@
 use Rattle.std.proofs.Common.{◌≡◌, drop}
 use Rattle.std.specs.List.{flat_map}
-use Rattle.easl_model.specs.Faults.{comes_before, first_with}
-use Rattle.easl_model.specs.HeaderFaults.{faults_of_class}
+use Rattle.easl_model.specs.{faults_of_class, first_with}
+use Rattle.easl_model.specs.Faults.{comes_before}
 use Rattle.easl_types.proofs.headers.faults_of_classes.Given as goal
 
 abbrev pub invariant-each : goal.invariant-each

@@ -1,8 +1,7 @@
 use Rattle.std.proofs.Common.{◌≡◌, drop}
 use Rattle.std.specs.List.{flat_map}
-use Rattle.easl_model.specs.Faults.{comes_before, first_with}
-use Rattle.easl_model.specs.HeaderFaults.{faults_of_header}
-use Rattle.easl_model.specs.Names.{codes_in}
+use Rattle.easl_model.specs.{codes_in, faults_of_header, first_with}
+use Rattle.easl_model.specs.Faults.{comes_before}
 use Rattle.easl_types.proofs.headers.faults_of_headers.Given as goal
 
 abbrev pub invariant-each : goal.invariant-each

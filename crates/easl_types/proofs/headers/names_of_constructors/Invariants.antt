@@ -1,8 +1,7 @@
 use Rattle.std.proofs.Common.{◌≡◌, drop}
 use Rattle.std.specs.List.{flat_map}
-use Rattle.easl_model.specs.Faults.{comes_before, first_with}
-use Rattle.easl_model.specs.HeaderFaults.{other_name}
-use Rattle.easl_model.specs.Names.{constructors_in}
+use Rattle.easl_model.specs.{constructors_in, first_with, other_name}
+use Rattle.easl_model.specs.Faults.{comes_before}
 use Rattle.easl_types.proofs.headers.names_of_constructors.Given as goal
 
 abbrev pub invariant-each : goal.invariant-each

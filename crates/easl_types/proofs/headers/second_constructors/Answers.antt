@@ -1,6 +1,6 @@
 use Rattle.std.proofs.Common.{ap, sym}
-use Rattle.easl_model.specs.Faults.{comes_before, first_with}
-use Rattle.easl_model.specs.Names.{constructors_in}
+use Rattle.easl_model.specs.{constructors_in, first_with}
+use Rattle.easl_model.specs.Faults.{comes_before}
 use Rattle.easl_types.proofs.Seconds.{behind_none}
 use Rattle.easl_types.proofs.headers.second_constructors.Goals as goal
 

@@ -1,7 +1,6 @@
 use Rattle.std.proofs.Common.{◌≡◌, drop}
-use Rattle.easl_model.specs.Faults.{comes_before, first_with}
-use Rattle.easl_model.specs.HeaderFaults.{second_constructors}
-use Rattle.easl_model.specs.Names.{constructors_in}
+use Rattle.easl_model.specs.{constructors_in, first_with, second_constructors}
+use Rattle.easl_model.specs.Faults.{comes_before}
 use Rattle.easl_types.specs.Constructors.{constructors_behind}
 use Rattle.easl_types.proofs.headers.second_constructors.Given as goal
 

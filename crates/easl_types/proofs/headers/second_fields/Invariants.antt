@@ -1,7 +1,6 @@
 use Rattle.std.proofs.Common.{◌≡◌, [], drop, map}
-use Rattle.easl_model.specs.Faults.{comes_before, first_with}
-use Rattle.easl_model.specs.HeaderFaults.{second_names}
-use Rattle.easl_model.specs.Names.{fields_in}
+use Rattle.easl_model.specs.{fields_in, first_with, second_names}
+use Rattle.easl_model.specs.Faults.{comes_before}
 use Rattle.easl_types.proofs.headers.second_fields.Given as goal
 
 abbrev pub invariant-each : goal.invariant-each

@@ -1,8 +1,7 @@
 use Rattle.std.proofs.Common.{◌≡◌, drop}
 use Rattle.std.specs.List.{flat_map}
-use Rattle.easl_model.specs.BodyFaults.{no_class}
-use Rattle.easl_model.specs.Faults.{comes_before, first_with}
-use Rattle.easl_model.specs.Names.{fields_in}
+use Rattle.easl_model.specs.{fields_in, first_with, no_class}
+use Rattle.easl_model.specs.Faults.{comes_before}
 use Rattle.easl_types.proofs.headers.types_of_fields.Given as goal
 
 abbrev pub invariant-each : goal.invariant-each

@@ -1,7 +1,7 @@
 use Rattle.std.proofs.Common.{◌≡◌, drop}
 use Rattle.std.specs.List.{flat_map}
-use Rattle.easl_model.specs.Faults.{comes_before, first_with}
-use Rattle.easl_model.specs.HeaderFaults.{no_type}
+use Rattle.easl_model.specs.{first_with, no_type}
+use Rattle.easl_model.specs.Faults.{comes_before}
 use Rattle.easl_types.proofs.headers.types_of_params.Given as goal
 
 abbrev pub invariant-each : goal.invariant-each

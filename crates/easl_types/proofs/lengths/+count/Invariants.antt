@@ -1,6 +1,5 @@
 use Rattle.std.proofs.Common.{◌≡◌, ◌+◌, drop}
-use Rattle.easl_model.specs.Limits.{total_count}
-use Rattle.easl_model.specs.Statements.{statements_of}
+use Rattle.easl_model.specs.{statements_of, total_count}
 use Rattle.easl_types.specs.Counts.{count_at, cut}
 use Rattle.easl_types.proofs.lengths.+count.Given as goal
 

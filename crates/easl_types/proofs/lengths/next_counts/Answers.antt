@@ -1,6 +1,6 @@
 use Rattle.std.proofs.Common.{arith}
 use Rattle.easl_model.specs.Form.{Form}
-use Rattle.easl_model.specs.Limits.{body_of, total_count}
+use Rattle.easl_model.specs.{body_of, total_count}
 use Rattle.easl_model.specs.declared.form.ClassForm.{ClassForm}
 use Rattle.easl_types.specs.Counts.{count_at, cut}
 use Rattle.easl_bodies.proofs.Walks.{map_more}

@@ -1,5 +1,5 @@
 use Rattle.std.proofs.Common.{◌≡◌, take, map}
-use Rattle.easl_model.specs.Limits.{body_of, total_count}
+use Rattle.easl_model.specs.{body_of, total_count}
 use Rattle.easl_types.specs.Counts.{count_at, cut}
 use Rattle.easl_types.proofs.lengths.next_counts.Given as goal
 

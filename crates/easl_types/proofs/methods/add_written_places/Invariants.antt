@@ -1,6 +1,5 @@
 use Rattle.std.proofs.Common.{◌≡◌, ◌++◌, drop, map}
-use Rattle.easl_model.specs.Bodies.{method_body}
-use Rattle.easl_model.specs.Names.{methods_in}
+use Rattle.easl_model.specs.{method_body, methods_in}
 use Rattle.easl_types.proofs.methods.add_written_places.Given as goal
 
 abbrev pub invariant-each : goal.invariant-each

@@ -1,5 +1,5 @@
 use Rattle.std.proofs.Common.{◌≡◌, take, map}
-use Rattle.easl_model.specs.Names.{class_of}
+use Rattle.easl_model.specs.{class_of}
 use Rattle.easl_types.proofs.methods.classes_of_params.Given as goal
 
 abbrev pub invariant-each : goal.invariant-each

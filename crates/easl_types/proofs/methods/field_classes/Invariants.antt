@@ -1,6 +1,5 @@
 use Rattle.std.proofs.Common.{◌≡◌, ◌++◌, drop, map}
-use Rattle.easl_model.specs.CheckedForm.{class_number}
-use Rattle.easl_model.specs.Names.{fields_in}
+use Rattle.easl_model.specs.{class_number, fields_in}
 use Rattle.easl_types.proofs.methods.field_classes.Given as goal
 
 abbrev pub invariant-each : goal.invariant-each

@@ -1,5 +1,5 @@
 use Rattle.std.proofs.Common.{◌≡◌, ◌++◌, drop, map}
-use Rattle.easl_model.specs.Names.{fields_in}
+use Rattle.easl_model.specs.{fields_in}
 use Rattle.easl_types.proofs.methods.field_names.Given as goal
 
 abbrev pub invariant-each : goal.invariant-each

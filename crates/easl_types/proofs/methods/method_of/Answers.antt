@@ -1,4 +1,4 @@
-use Rattle.easl_model.specs.Bodies.{Body}
+use Rattle.easl_model.specs.{Body}
 use Rattle.easl_types.proofs.MethodForms.{method_is}
 use Rattle.easl_types.proofs.methods.method_of.Goals as goal
 

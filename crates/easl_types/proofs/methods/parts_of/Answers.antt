@@ -1,6 +1,5 @@
 use Rattle.std.proofs.Common.{◌≡◌, ℕ, ◌+◌, [], ◌∷◌, ◌++◌, ap, arith, drop, length, map, sym, ◌∙◌}
-use Rattle.easl_model.specs.Bodies.{Body, bodies_from}
-use Rattle.easl_model.specs.CheckedForm.{classes_from, method_of}
+use Rattle.easl_model.specs.{Body, bodies_from, classes_from, method_of}
 use Rattle.easl_model.specs.declared.form.ClassForm.{ClassForm}
 use Rattle.easl_types.specs.Forms.{class_form}
 use Rattle.easl_types.proofs.PartsGrown.{classes_grown, methods_grown, places_grown}

@@ -1,6 +1,5 @@
 use Rattle.std.proofs.Common.{◌≡◌, ◌++◌, drop, length, map}
-use Rattle.easl_model.specs.Bodies.{bodies_from, bodies_of}
-use Rattle.easl_model.specs.CheckedForm.{classes_from, method_of}
+use Rattle.easl_model.specs.{bodies_from, bodies_of, classes_from, method_of}
 use Rattle.easl_types.proofs.methods.parts_of.Given as goal
 
 abbrev pub invariant-each : goal.invariant-each

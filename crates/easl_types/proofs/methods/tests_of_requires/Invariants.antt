@@ -1,6 +1,5 @@
 use Rattle.std.proofs.Common.{◌≡◌, ◌++◌, drop, map}
-use Rattle.easl_model.specs.CheckedForm.{tests_of}
-use Rattle.easl_model.specs.Clauses.{clause_of, clauses}
+use Rattle.easl_model.specs.{clause_of, clauses, tests_of}
 use Rattle.easl_types.proofs.methods.tests_of_requires.Given as goal
 
 abbrev pub invariant-each : goal.invariant-each

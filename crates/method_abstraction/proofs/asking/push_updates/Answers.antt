@@ -1,5 +1,5 @@
 use Rattle.std.proofs.Common.{◌∷◌, [], ◌++◌, cond, ap, ◌∙◌}
-use Rattle.method_abstraction.specs.Asking.{may_stand}
+use Rattle.method_abstraction.specs.{may_stand}
 use Rattle.method_abstraction.specs.declared.entry.Question.TheVariants.{Update}
 use Rattle.method_abstraction.proofs.Asked.{all_picked, one_more_picked}
 use Rattle.method_abstraction.proofs.asking.push_updates.Goals as goal

@@ -1,6 +1,6 @@
 use Rattle.std.proofs.Common.{◌≡◌, ◌-◌, ◌++◌, map}
 use Rattle.std.specs.List.{filter, range_with_len}
-use Rattle.method_abstraction.specs.Asking.{may_stand, result_sets}
+use Rattle.method_abstraction.specs.{may_stand, result_sets}
 use Rattle.method_abstraction.specs.declared.entry.Question.TheVariants.{Update}
 use Rattle.method_abstraction.proofs.asking.push_updates.Given as goal
 

@@ -1,6 +1,6 @@
 use Rattle.std.proofs.Common.{◌≡◌, ◌++◌, [], drop, map}
 use Rattle.std.specs.Prelude.{codes}
-use Rattle.method_abstraction.specs.Texts.{disjunct_text}
+use Rattle.method_abstraction.specs.{disjunct_text}
 use Rattle.method_abstraction.proofs.Joined.{led}
 use Rattle.method_abstraction.proofs.print.push_disjuncts.Given as goal
 

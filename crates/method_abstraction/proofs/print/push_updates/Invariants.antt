@@ -1,6 +1,6 @@
 use Rattle.std.proofs.Common.{◌≡◌, ◌++◌, drop}
 use Rattle.std.specs.List.{flat_map}
-use Rattle.method_abstraction.specs.Texts.{update_line}
+use Rattle.method_abstraction.specs.{update_line}
 use Rattle.method_abstraction.proofs.print.push_updates.Given as goal
 
 abbrev pub invariant-each : goal.invariant-each

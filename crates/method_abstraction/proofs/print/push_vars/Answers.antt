@@ -1,6 +1,6 @@
 use Rattle.std.proofs.Common.{ap, map}
 use Rattle.std.proofs.lemmas.List.{drop_all}
-use Rattle.method_abstraction.specs.Texts.{variable_text}
+use Rattle.method_abstraction.specs.{variable_text}
 use Rattle.method_abstraction.proofs.Joined.{all_joined}
 use Rattle.method_abstraction.proofs.print.push_vars.Goals as goal
 

@@ -1,6 +1,6 @@
 use Rattle.std.proofs.Common.{ap, map}
 use Rattle.std.proofs.lemmas.List.{drop_all}
-use Rattle.method_abstraction.specs.Texts.{literal_text}
+use Rattle.method_abstraction.specs.{literal_text}
 use Rattle.method_abstraction.proofs.Joined.{all_joined}
 use Rattle.method_abstraction.proofs.terms.push_cube.Goals as goal
 

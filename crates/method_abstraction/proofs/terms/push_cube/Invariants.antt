@@ -1,6 +1,6 @@
 use Rattle.std.proofs.Common.{◌≡◌, ◌++◌, [], drop, map}
 use Rattle.std.specs.Prelude.{codes}
-use Rattle.method_abstraction.specs.Texts.{literal_text}
+use Rattle.method_abstraction.specs.{literal_text}
 use Rattle.method_abstraction.proofs.Joined.{led}
 use Rattle.method_abstraction.proofs.terms.push_cube.Given as goal
 

@@ -1,5 +1,5 @@
 use Rattle.std.proofs.Common.{◌≡◌, ◌++◌, drop}
-use Rattle.method_abstraction.specs.Texts.{families_text}
+use Rattle.method_abstraction.specs.{families_text}
 use Rattle.method_abstraction.proofs.terms.push_families.Given as goal
 
 abbrev pub invariant-each : goal.invariant-each

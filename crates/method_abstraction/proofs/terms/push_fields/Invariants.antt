@@ -1,5 +1,5 @@
 use Rattle.std.proofs.Common.{◌≡◌, ◌++◌, drop}
-use Rattle.method_abstraction.specs.Texts.{fields_text}
+use Rattle.method_abstraction.specs.{fields_text}
 use Rattle.method_abstraction.proofs.terms.push_fields.Given as goal
 
 abbrev pub invariant-each : goal.invariant-each

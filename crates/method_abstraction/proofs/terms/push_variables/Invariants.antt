@@ -1,6 +1,6 @@
 use Rattle.std.proofs.Common.{◌≡◌, ◌++◌, [], drop}
 use Rattle.std.specs.Prelude.{codes}
-use Rattle.method_abstraction.specs.Texts.{variables_text}
+use Rattle.method_abstraction.specs.{variables_text}
 use Rattle.method_abstraction.proofs.Joined.{led}
 use Rattle.method_abstraction.proofs.terms.push_variables.Given as goal
 

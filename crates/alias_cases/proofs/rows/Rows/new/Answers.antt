@@ -1,6 +1,6 @@
 use Rattle.std.proofs.Common.{arith, sym}
 use Rattle.cube_search.specs.Truths.{IsRowOf}
-use Rattle.alias_cases.specs.Rows.{truths_of}
+use Rattle.alias_cases.specs.{truths_of}
 use Rattle.alias_cases.proofs.Turns.{zip_more}
 use Rattle.alias_cases.proofs.rows.Rows.new.Goals as goal
 

@@ -1,7 +1,7 @@
 use Rattle.std.proofs.Common.{take}
 use Rattle.std.specs.List.{AllZip}
 use Rattle.cube_search.specs.Truths.{IsRowOf}
-use Rattle.alias_cases.specs.Rows.{truths_of}
+use Rattle.alias_cases.specs.{truths_of}
 use Rattle.alias_cases.proofs.rows.Rows.new.Given as goal
 
 abbrev pub invariant-each : goal.invariant-each

@@ -1,5 +1,5 @@
 use Rattle.std.proofs.Common.{ap, ◌∙◌}
-use Rattle.easl_heap.specs.Body.{body}
+use Rattle.easl_heap.specs.{body}
 use Rattle.easl_heap.proofs.Calls.{call_full, call_kept}
 use Rattle.easl_heap.proofs.heap.Heap.execute_body.Goals as goal
 

@@ -1,5 +1,5 @@
 use Rattle.std.proofs.Common.{rules}
-use Rattle.easl_model.specs.Checked.{IsChecked}
+use Rattle.easl_model.specs.{IsChecked}
 use Rattle.easl_model.proofs.CheckedForms.{constructs_at}
 use Rattle.easl_model.proofs.checked.CheckedSpec.constructor.Goals as goal
 

@@ -1,9 +1,7 @@
 use Rattle.std.proofs.Common.{arith, ap, ◌∙◌}
-use Rattle.easl_model.specs.Conditions.{condition_of}
-use Rattle.easl_model.specs.Statements.{statement_of, statements_of}
+use Rattle.easl_model.specs.{condition_of, statement_of, statements_of}
 use Rattle.easl_model.proofs.Folds.{if_act}
-use Rattle.question_model.specs.Bodies.{made}
-use Rattle.question_model.specs.States.{state}
+use Rattle.question_model.specs.{made, state}
 use Rattle.weakest_pre.specs.Running.{most}
 use Rattle.weakest_pre.proofs.Executing.{construct_ends, construct_stops, if_leaves}
 use Rattle.weakest_pre.proofs.branch.Branch.+body.Goals as goal

@@ -1,9 +1,7 @@
 use Rattle.std.proofs.Common.{◌≡◌, ◌+◌, ◌*◌, drop}
-use Rattle.easl_model.specs.Limits.{written_by, written_in}
-use Rattle.easl_model.specs.Statements.{statement_of, statements_of}
-use Rattle.question_model.specs.Bodies.{made}
+use Rattle.easl_model.specs.{statement_of, statements_of, written_by, written_in}
+use Rattle.question_model.specs.{made, state}
 use Rattle.question_model.specs.Bodies as told
-use Rattle.question_model.specs.States.{state}
 use Rattle.weakest_pre.specs.Running.{most}
 use Rattle.weakest_pre.proofs.branch.Branch.+body.Given as goal
 

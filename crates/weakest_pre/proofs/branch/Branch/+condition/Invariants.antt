@@ -1,6 +1,6 @@
 use Rattle.std.proofs.Common.{◌≡◌, drop, map}
-use Rattle.easl_model.specs.Conditions.{conditions, condition_of}
-use Rattle.question_model.specs.States.{state}
+use Rattle.easl_model.specs.{condition_of, conditions}
+use Rattle.question_model.specs.{state}
 use Rattle.question_model.specs.States as told
 use Rattle.weakest_pre.specs.Running.{most}
 use Rattle.weakest_pre.proofs.branch.Branch.+condition.Given as goal

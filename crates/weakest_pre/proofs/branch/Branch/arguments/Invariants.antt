@@ -1,7 +1,6 @@
 use Rattle.std.proofs.Common.{◌≡◌, drop, ◌++◌}
 use Rattle.question_model.specs.Bodies as told
-use Rattle.question_model.specs.Stage.{Done, ◌>>=◌}
-use Rattle.question_model.specs.States.{state}
+use Rattle.question_model.specs.{Done, state, ◌>>=◌}
 use Rattle.weakest_pre.specs.Running.{most}
 use Rattle.weakest_pre.proofs.branch.Branch.arguments.Given as goal
 

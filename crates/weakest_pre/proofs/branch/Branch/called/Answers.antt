@@ -1,4 +1,4 @@
-use Rattle.question_model.specs.States.{state}
+use Rattle.question_model.specs.{state}
 use Rattle.weakest_pre.proofs.Executing.{method_leaves}
 use Rattle.weakest_pre.proofs.branch.Branch.called.Goals as goal
 
