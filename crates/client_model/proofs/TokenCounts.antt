@@ -2,12 +2,13 @@
 use Rattle.std.proofs.Common.{◌≡◌, ℕ, suc, ◌+◌, ◌≤◌, Bool, List, [], ◌∷◌, ◌++◌, IsUtf8, chars, length, sym, ap, ◌∙◌, subst, arith, length-append}
 use Rattle.std.specs.Prelude.{None, Some, false, true}
 use Rattle.std.proofs.lemmas.Str.{chars-encodes, length-le-encodes}
-use Rattle.client_model.proofs.PlainStatements.{plain, plain_assign, plain_declare, plain_do, plain_if, plain_while}
-use Rattle.client_model.specs.Grammar.{IsBlock, IsClient, IsItems, IsProc, IsStmt, IsStmts, act, assign, block, client, declare, declare_set, if_alone, if_else, next_procedure, next_static, next_stmt, no_items, no_stmts, procedure, while}
+use Rattle.client_model.proofs.PlainStatements.{plain, plain_assign, plain_break, plain_continue, plain_declare, plain_do, plain_if, plain_return, plain_while}
+use Rattle.client_model.specs.Grammar.{IsBlock, IsClient, IsItems, IsProc, IsReturn, IsStmt, IsStmts, act, assign, bare_return, block, break, client, continue, declare, declare_set, if_alone, if_else, next_procedure, next_static, next_stmt, no_items, no_stmts, procedure, return, while, with_return}
 use Rattle.client_model.specs.Nodes.{count, count_in}
 use Rattle.client_model.specs.Statements.{statement_of}
 use Rattle.client_model.specs.declared.tree.Client.{Client}
 use Rattle.client_model.specs.declared.tree.Proc.{Proc}
+use Rattle.client_model.specs.declared.tree.Return.{Return}
 use Rattle.client_model.specs.declared.tree.Static.{Static}
 use Rattle.client_model.specs.declared.tree.Stmt.{Stmt}
 use Rattle.client_model.specs.declared.tree.Stmt.TheVariants as stmt
@@ -34,26 +35,32 @@ few_tokens text tokens are =
     omega (arith, few_in_cut [] (chars text) tokens.list are.cut, length-le-encodes (chars text), chars_size text are.utf8)
 
 module _ (text : List ℕ) where
+  some_in_return : (ts : List Token) (r : Return) → IsReturn text ts r → 1 ≤ length ts
+  some_in_return _ _ (bare_return key last) = omega arith
+  some_in_return _ _ (with_return key value last) = omega arith
+
   mutual
     pub few_in_stmt : (ts : List Token) (x : Stmt) → IsStmt text ts x → count_in (statement_of x) ≤ length ts
-    few_in_stmt _ _ (declare {name = t} {semicolon = k} {n = n} {ts = ts} {s = s} type name last) =
-        let one : count_in (statement_of (stmt.Declare s n None)) ≡ 1 = ap count_in (plain_declare s n None) in
-        omega (arith, one, length-append ts (t ∷ k ∷ []))
-    few_in_stmt _ _ (declare_set {name = t} {n = n} {ts = ts} {us = us} {s = s} {x = v} type name value) =
-        let one : count_in (statement_of (stmt.Declare s n (Some v))) ≡ 1 = ap count_in (plain_declare s n (Some v)) in
-        omega (arith, one, length-append ts (t ∷ us))
+    few_in_stmt _ _ (declare {t = t} {n = n} {s = s} type name last) =
+        let one : count_in (statement_of (stmt.Declare t.place s n None)) ≡ 1 = ap count_in (plain_declare t.place s n None) in omega (arith, one)
+    few_in_stmt _ _ (declare_set {t = t} {n = n} {s = s} {x = v} type name value) =
+        let one : count_in (statement_of (stmt.Declare t.place s n (Some v))) ≡ 1 = ap count_in (plain_declare t.place s n (Some v)) in omega (arith, one)
     few_in_stmt _ _ (assign {n = n} {x = v} name value) = let one : count_in (statement_of (stmt.Assign n v)) ≡ 1 = ap count_in (plain_assign n v) in omega (arith, one)
     few_in_stmt _ _ (act {semicolon = k} {ts = ts} {x = v} action last) =
         let one : count_in (statement_of (stmt.Do v)) ≡ 1 = ap count_in (plain_do v) in omega (arith, one, length-append ts (k ∷ []))
-    few_in_stmt _ _ (if_alone {ts = ts} {us = us} {t = t} {xs = xs} key asked first) =
-        let all : count_in (statement_of (stmt.If t xs [] false)) ≡ suc (count (plain xs) + 0) = ap count_in (plain_if t xs [] false) in
+    few_in_stmt _ _ (if_alone {keyword = at} {ts = ts} {us = us} {t = t} {xs = xs} key asked first) =
+        let all : count_in (statement_of (stmt.If at.place t xs [] false)) ≡ suc (count (plain xs) + 0) = ap count_in (plain_if at.place t xs [] false) in
         omega (arith, all, length-append ts us, few_in_block us xs first)
-    few_in_stmt _ _ (if_else {other = k} {ts = ts} {us = us} {vs = vs} {t = t} {xs = xs} {ys = ys} key asked first other second) =
-        let all : count_in (statement_of (stmt.If t xs ys true)) ≡ suc (count (plain xs) + count (plain ys)) = ap count_in (plain_if t xs ys true) in
+    few_in_stmt _ _ (if_else {keyword = at} {other = k} {ts = ts} {us = us} {vs = vs} {t = t} {xs = xs} {ys = ys} key asked first other second) =
+        let all : count_in (statement_of (stmt.If at.place t xs ys true)) ≡ suc (count (plain xs) + count (plain ys)) = ap count_in (plain_if at.place t xs ys true) in
         omega (arith, all, length-append ts (us ++ k ∷ vs), length-append us (k ∷ vs), few_in_block us xs first, few_in_block vs ys second)
-    few_in_stmt _ _ (while {ts = ts} {us = us} {t = t} {xs = xs} key asked inner) =
-        let all : count_in (statement_of (stmt.While t xs)) ≡ suc (count (plain xs)) = ap count_in (plain_while t xs) in
+    few_in_stmt _ _ (while {keyword = at} {ts = ts} {us = us} {t = t} {xs = xs} key asked inner) =
+        let all : count_in (statement_of (stmt.While at.place t xs)) ≡ suc (count (plain xs)) = ap count_in (plain_while at.place t xs) in
         omega (arith, all, length-append ts us, few_in_block us xs inner)
+    few_in_stmt _ _ (break {keyword = at} key last) = let one : count_in (statement_of (stmt.Break at.place)) ≡ 1 = ap count_in (plain_break at.place) in omega (arith, one)
+    few_in_stmt _ _ (continue {keyword = at} key last) = let one : count_in (statement_of (stmt.Continue at.place)) ≡ 1 = ap count_in (plain_continue at.place) in omega (arith, one)
+    few_in_stmt _ _ (return {ts = ts} {x = r} written) =
+        let one : count_in (statement_of (stmt.Return r)) ≡ 1 = ap count_in (plain_return r) in omega (arith, one, some_in_return ts r written)
 
     few_in_block : (ts : List Token) (xs : List Stmt) → IsBlock text ts xs → count (plain xs) ≤ length ts
     few_in_block _ _ (block {end = k} {ts = ts} {xs = xs} begin inner end) = omega (arith, length-append ts (k ∷ []), few_in_stmts ts xs inner)
@@ -64,14 +71,8 @@ module _ (text : List ℕ) where
         omega (arith, length-append ts us, few_in_stmt ts x first, few_in_stmts us xs rest)
 
   few_in_proc : (ts : List Token) (p : Proc) → IsProc text ts p → count (plain p.body) ≤ length ts
-  few_in_proc _ _ (procedure {name = t} {begin = b} {end = e} {rs = rs} {ts = ts} {us = us} {vs = vs} {xs = xs} gives name takes begin body last end) =
-      omega (
-        arith,
-        few_in_stmts us xs body,
-        length-append rs (t ∷ (ts ++ b ∷ (us ++ (vs ++ e ∷ [])))),
-        length-append ts (b ∷ (us ++ (vs ++ e ∷ []))),
-        length-append us (vs ++ e ∷ []),
-      )
+  few_in_proc _ _ (procedure {begin = b} {end = e} {ts = ts} {us = us} {xs = xs} gives name takes begin body end) =
+      omega (arith, few_in_stmts us xs body, length-append ts (b ∷ (us ++ e ∷ [])), length-append us (e ∷ []))
 
   few_in_items : (ts : List Token) (xs : List Static) (ys : List Proc) (order : List Bool) (p : Proc) → IsItems text ts xs ys order → ys ≡ p ∷ [] → count (plain p.body) ≤ length ts
   few_in_items _ _ _ _ p no_items only = absurd cc

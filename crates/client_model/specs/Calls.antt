@@ -2,7 +2,7 @@
 use Rattle.std.specs.Prelude.{ℕ, List, [], ◌∷◌, Option, Some, None, if◌then◌else◌, option_and_then, option_map}
 use Rattle.client_model.specs.Contexts.{Context, variable_named}
 use Rattle.client_model.specs.Lookups.{Callee, class_named, class_of, is_literal, method_named, numbered}
-use Rattle.client_model.specs.Statements.{Statement, Declare, Assign, Do, If, While}
+use Rattle.client_model.specs.Statements.{Statement, Declare, Assign, Do, If, While, Break, Continue, Return}
 use Rattle.client_model.specs.declared.tree.Rhs.{Rhs}
 use Rattle.client_model.specs.declared.tree.Rhs.TheVariants as rhs
 use Rattle.client_model.specs.declared.tree.Test.{Test}
@@ -18,19 +18,25 @@ value_of_test (test.Call x) = Some (rhs.Component x)
 
 -- the value that a statement evaluates; that of a test is its call
 abbrev pub value_in : Statement → Option Rhs
-value_in (Declare sort w v) = v
+value_in (Declare at sort w v) = v
 value_in (Assign w v) = Some v
 value_in (Do v) = Some v
-value_in (If t first second written) = value_of_test t
-value_in (While t inner) = value_of_test t
+value_in (If at t first second written) = value_of_test t
+value_in (While at t inner) = value_of_test t
+value_in (Break at) = None
+value_in (Continue at) = None
+value_in (Return r) = None
 
 -- the statement asks: it is an `if` or a `while`
 abbrev pub Asks : Statement → Type 0
-Asks (Declare sort w v) = ⊥
+Asks (Declare at sort w v) = ⊥
 Asks (Assign w v) = ⊥
 Asks (Do v) = ⊥
-Asks (If t first second written) = Unit {0}
-Asks (While t inner) = Unit {0}
+Asks (If at t first second written) = Unit {0}
+Asks (While at t inner) = Unit {0}
+Asks (Break at) = ⊥
+Asks (Continue at) = ⊥
+Asks (Return r) = ⊥
 
 abbrev pub arguments : Rhs → List Word
 arguments (rhs.Copy w) = []
@@ -51,6 +57,17 @@ place_of (rhs.Copy w) = w.place
 place_of (rhs.New x) = x.place
 place_of (rhs.Component x) = x.receiver.place
 place_of (rhs.Call x) = x.procedure.place
+
+-- the place of a statement's first token
+abbrev pub first_token : Statement → Place
+first_token (Declare at sort w v) = at
+first_token (Assign w v) = w.place
+first_token (Do v) = place_of v
+first_token (If at t first second written) = at
+first_token (While at t inner) = at
+first_token (Break at) = at
+first_token (Continue at) = at
+first_token (Return r) = r.place
 
 -- the class of a variable of this name, None where it is opaque; no answer where none is in scope
 abbrev pub variable_class : Context → Word → Option (Option ℕ)
@@ -80,8 +97,11 @@ value_class form c (rhs.Call x) = None
 
 -- the class of what takes a statement's value, None where it is opaque; no answer where nothing takes it
 abbrev pub taken_as : Form → Context → Statement → Option (Option ℕ)
-taken_as form c (Declare sort w v) = Some (class_of form sort)
+taken_as form c (Declare at sort w v) = Some (class_of form sort)
 taken_as form c (Assign w v) = variable_class c w
 taken_as form c (Do v) = None
-taken_as form c (If t first second written) = None
-taken_as form c (While t inner) = None
+taken_as form c (If at t first second written) = None
+taken_as form c (While at t inner) = None
+taken_as form c (Break at) = None
+taken_as form c (Continue at) = None
+taken_as form c (Return r) = None

@@ -3,7 +3,7 @@ use Rattle.std.specs.Prelude.{ℕ, suc, ◌+◌, ◌==◌, List, [], ◌∷◌, 
 use Rattle.std.specs.List.{list_any}
 use Rattle.std.specs.Option.{option_map_or}
 use Rattle.client_model.specs.Lookups.{class_of, is_same}
-use Rattle.client_model.specs.Statements.{Statement, Statements, Declare, Assign, Do, If, While, none, ◌▸◌}
+use Rattle.client_model.specs.Statements.{Statement, Statements, Declare, Assign, Do, If, While, Break, Continue, Return, none, ◌▸◌}
 use Rattle.client_model.specs.declared.tree.Rhs.{Rhs}
 use Rattle.client_model.specs.declared.tree.Rhs.TheVariants as rhs
 use Rattle.client_model.specs.declared.tree.Test.{Test}
@@ -69,16 +69,19 @@ left_block before inside = record before { variables = inside.variables; calls =
 abbrev mutual
   -- behind a statement. After an `if` what both branches assign is assigned, after a `while` what was before it
   pub after : Form → Context → Statement → Context
-  after form c (Declare sort w None) = declared form sort w c
-  after form c (Declare sort w (Some v)) = assigned w (declared form sort w (evaluated v c))
+  after form c (Declare at sort w None) = declared form sort w c
+  after form c (Declare at sort w (Some v)) = assigned w (declared form sort w (evaluated v c))
   after form c (Assign w v) = assigned w (evaluated v c)
   after form c (Do v) = evaluated v c
-  after form c (If t first second written) =
+  after form c (If at t first second written) =
       let start = tested t c
       in let one = after_all form start first
       in let other = after_all form (left_block start one) second
       in record (left_block start other) { assigned = both one.assigned other.assigned }
-  after form c (While t inner) = let start = tested t c in left_block start (after_all form start inner)
+  after form c (While at t inner) = let start = tested t c in left_block start (after_all form start inner)
+  after form c (Break at) = c
+  after form c (Continue at) = c
+  after form c (Return r) = c
 
   pub after_all : Form → Context → Statements → Context
   after_all form c none = c
@@ -97,8 +100,11 @@ abbrev mutual
 
   -- those that stand in a statement
   pub situated_in : Form → Context → Statement → List Situated
-  situated_in form c (Declare sort w v) = []
+  situated_in form c (Declare at sort w v) = []
   situated_in form c (Assign w v) = []
   situated_in form c (Do v) = []
-  situated_in form c (If t first second written) = situated form (tested t c) first ++ situated form (left_block (tested t c) (after_all form (tested t c) first)) second
-  situated_in form c (While t inner) = situated form (tested t c) inner
+  situated_in form c (If at t first second written) = situated form (tested t c) first ++ situated form (left_block (tested t c) (after_all form (tested t c) first)) second
+  situated_in form c (While at t inner) = situated form (tested t c) inner
+  situated_in form c (Break at) = []
+  situated_in form c (Continue at) = []
+  situated_in form c (Return r) = []

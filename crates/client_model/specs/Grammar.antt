@@ -1,5 +1,5 @@
 -- The grammar of clients: which tokens of a text spell which tree, a constructor for each rule.
-use Rattle.std.specs.Prelude.{ℕ, Bool, true, false, List, [], ◌∷◌, ◌++◌, Option, Some, None}
+use Rattle.std.specs.Prelude.{ℕ, Bool, true, false, List, [], ◌∷◌, ◌++◌, Some, None}
 use Rattle.easl_model.specs.Grammar.{IsListed, IsType, IsResult, IsParams}
 use Rattle.easl_model.specs.Lexemes.{IsMark, IsKey, IsName, IsLiteral}
 use Rattle.easl_model.specs.declared.place.Place.{Place}
@@ -74,17 +74,26 @@ pub data IsGuard (text : List ℕ) : List Token → Test → Type 0 where
 pub data IsSet (text : List ℕ) : List Token → Rhs → Type 0 where
   set : {assign semicolon : Token} {ts : List Token} {x : Rhs} → IsMark mark.Assign assign → IsRhs text ts x → IsMark mark.Semicolon semicolon → IsSet text (assign ∷ ts ++ semicolon ∷ []) x
 
+-- "return" ";" | "return" arg ";"
+pub data IsReturn (text : List ℕ) : List Token → Return → Type 0 where
+  bare_return : {keyword semicolon : Token} → IsKey key.Return keyword → IsMark mark.Semicolon semicolon → IsReturn text (keyword ∷ semicolon ∷ []) (record { place = keyword.place; value = None })
+  with_return : {keyword semicolon : Token} {ts : List Token} {w : Word} → IsKey key.Return keyword → IsArg text ts w → IsMark mark.Semicolon semicolon → IsReturn text (keyword ∷ ts ++ semicolon ∷ []) (record { place = keyword.place; value = Some w })
+
 mutual
   -- type Name ";" | type Name set | Name set | action ";"
   -- | "if" guard block | "if" guard block "else" block | "while" guard block
+  -- | "break" ";" | "continue" ";" | return
   pub data IsStmt (text : List ℕ) : List Token → Stmt → Type 0 where
-    declare : {name semicolon : Token} {n : Word} {ts : List Token} {s : Sort} → IsType text ts s → IsName text name n → IsMark mark.Semicolon semicolon → IsStmt text (ts ++ name ∷ semicolon ∷ []) (stmt.Declare s n None)
-    declare_set : {name : Token} {n : Word} {ts us : List Token} {s : Sort} {x : Rhs} → IsType text ts s → IsName text name n → IsSet text us x → IsStmt text (ts ++ name ∷ us) (stmt.Declare s n (Some x))
+    declare : {t name semicolon : Token} {n : Word} {s : Sort} → IsType text (t ∷ []) s → IsName text name n → IsMark mark.Semicolon semicolon → IsStmt text (t ∷ name ∷ semicolon ∷ []) (stmt.Declare t.place s n None)
+    declare_set : {t name : Token} {n : Word} {ts : List Token} {s : Sort} {x : Rhs} → IsType text (t ∷ []) s → IsName text name n → IsSet text ts x → IsStmt text (t ∷ name ∷ ts) (stmt.Declare t.place s n (Some x))
     assign : {name : Token} {n : Word} {ts : List Token} {x : Rhs} → IsName text name n → IsSet text ts x → IsStmt text (name ∷ ts) (stmt.Assign n x)
     act : {semicolon : Token} {ts : List Token} {x : Rhs} → IsAction text ts x → IsMark mark.Semicolon semicolon → IsStmt text (ts ++ semicolon ∷ []) (stmt.Do x)
-    if_alone : {keyword : Token} {ts us : List Token} {t : Test} {xs : List Stmt} → IsKey key.If keyword → IsGuard text ts t → IsBlock text us xs → IsStmt text (keyword ∷ (ts ++ us)) (stmt.If t xs [] false)
-    if_else : {keyword other : Token} {ts us vs : List Token} {t : Test} {xs ys : List Stmt} → IsKey key.If keyword → IsGuard text ts t → IsBlock text us xs → IsKey key.Else other → IsBlock text vs ys → IsStmt text (keyword ∷ (ts ++ (us ++ other ∷ vs))) (stmt.If t xs ys true)
-    while : {keyword : Token} {ts us : List Token} {t : Test} {xs : List Stmt} → IsKey key.While keyword → IsGuard text ts t → IsBlock text us xs → IsStmt text (keyword ∷ (ts ++ us)) (stmt.While t xs)
+    if_alone : {keyword : Token} {ts us : List Token} {t : Test} {xs : List Stmt} → IsKey key.If keyword → IsGuard text ts t → IsBlock text us xs → IsStmt text (keyword ∷ (ts ++ us)) (stmt.If keyword.place t xs [] false)
+    if_else : {keyword other : Token} {ts us vs : List Token} {t : Test} {xs ys : List Stmt} → IsKey key.If keyword → IsGuard text ts t → IsBlock text us xs → IsKey key.Else other → IsBlock text vs ys → IsStmt text (keyword ∷ (ts ++ (us ++ other ∷ vs))) (stmt.If keyword.place t xs ys true)
+    while : {keyword : Token} {ts us : List Token} {t : Test} {xs : List Stmt} → IsKey key.While keyword → IsGuard text ts t → IsBlock text us xs → IsStmt text (keyword ∷ (ts ++ us)) (stmt.While keyword.place t xs)
+    break : {keyword semicolon : Token} → IsKey key.Break keyword → IsMark mark.Semicolon semicolon → IsStmt text (keyword ∷ semicolon ∷ []) (stmt.Break keyword.place)
+    continue : {keyword semicolon : Token} → IsKey key.Continue keyword → IsMark mark.Semicolon semicolon → IsStmt text (keyword ∷ semicolon ∷ []) (stmt.Continue keyword.place)
+    return : {ts : List Token} {x : Return} → IsReturn text ts x → IsStmt text ts (stmt.Return x)
 
   -- "{" stmt* "}"
   pub data IsBlock (text : List ℕ) : List Token → List Stmt → Type 0 where
@@ -95,19 +104,13 @@ mutual
     no_stmts : IsStmts text [] []
     next_stmt : {ts us : List Token} {x : Stmt} {xs : List Stmt} → IsStmt text ts x → IsStmts text us xs → IsStmts text (ts ++ us) (x ∷ xs)
 
--- ("return" arg? ";")?
-pub data IsReturn (text : List ℕ) : List Token → Option Return → Type 0 where
-  no_return : IsReturn text [] None
-  bare_return : {keyword semicolon : Token} → IsKey key.Return keyword → IsMark mark.Semicolon semicolon → IsReturn text (keyword ∷ semicolon ∷ []) (Some (record { place = keyword.place; value = None }))
-  with_return : {keyword semicolon : Token} {ts : List Token} {w : Word} → IsKey key.Return keyword → IsArg text ts w → IsMark mark.Semicolon semicolon → IsReturn text (keyword ∷ ts ++ semicolon ∷ []) (Some (record { place = keyword.place; value = Some w }))
-
 -- "static" type Name "=" initial ";"
 pub data IsStatic (text : List ℕ) : List Token → Static → Type 0 where
-  static : {keyword name assign semicolon : Token} {n : Word} {ts us : List Token} {s : Sort} {x : Rhs} → IsKey key.Static keyword → IsType text ts s → IsName text name n → IsMark mark.Assign assign → IsInitial text us x → IsMark mark.Semicolon semicolon → IsStatic text (keyword ∷ (ts ++ (name ∷ (assign ∷ (us ++ semicolon ∷ []))))) (record { sort = s; name = n; value = x })
+  static : {keyword name assign semicolon : Token} {n : Word} {ts us : List Token} {s : Sort} {x : Rhs} → IsKey key.Static keyword → IsType text ts s → IsName text name n → IsMark mark.Assign assign → IsInitial text us x → IsMark mark.Semicolon semicolon → IsStatic text (keyword ∷ (ts ++ (name ∷ (assign ∷ (us ++ semicolon ∷ []))))) (record { place = keyword.place; sort = s; name = n; value = x })
 
--- result Name params "{" stmt* return "}"
+-- result Name params "{" stmt* "}"
 pub data IsProc (text : List ℕ) : List Token → Proc → Type 0 where
-  procedure : {name begin end : Token} {n : Word} {rs ts us vs : List Token} {r : Sort} {ps : List Param} {xs : List Stmt} {x : Option Return} → IsResult text rs r → IsName text name n → IsParams text ts ps → IsMark mark.Begin begin → IsStmts text us xs → IsReturn text vs x → IsMark mark.End end → IsProc text (rs ++ (name ∷ (ts ++ (begin ∷ (us ++ (vs ++ end ∷ [])))))) (record { result = r; name = n; params = ps; body = xs; last = x; end = end.place })
+  procedure : {result name begin end : Token} {n : Word} {ts us : List Token} {r : Sort} {ps : List Param} {xs : List Stmt} → IsResult text (result ∷ []) r → IsName text name n → IsParams text ts ps → IsMark mark.Begin begin → IsStmts text us xs → IsMark mark.End end → IsProc text (result ∷ name ∷ (ts ++ (begin ∷ (us ++ end ∷ [])))) (record { place = result.place; result = r; name = n; params = ps; body = xs; end = end.place })
 
 -- (static | procedure)*, with the statics, the procedures, and of each item in order whether it is a static
 pub data IsItems (text : List ℕ) : List Token → List Static → List Proc → List Bool → Type 0 where

@@ -11,3 +11,4 @@ pub mod SoleMain
 pub mod Spelling
 pub mod Statements
 pub mod Straight
+pub mod TreeLimits

@@ -13,6 +13,9 @@ mutual
     Step : ℕ → Tree
     If : ℕ → Trees → Trees → Tree
     While : ℕ → Trees → Tree
+    Break : ℕ → Tree
+    Continue : ℕ → Tree
+    Return : ℕ → Tree
 
   pub data Trees : Type 0 where
     end : Trees
@@ -26,6 +29,9 @@ abbrev pub rooted : Node-F Tree → Tree
 rooted (layer.Step point) = Step point
 rooted (layer.If point first second) = If point (trees first) (trees second)
 rooted (layer.While point inner) = While point (trees inner)
+rooted (layer.Break point) = Break point
+rooted (layer.Continue point) = Continue point
+rooted (layer.Return point) = Return point
 
 abbrev pub tree_of : Node → Tree
 tree_of = fold-Node Tree rooted
@@ -37,11 +43,9 @@ abbrev mutual
   count (x ▸ xs) = count_in x + count xs
 
   pub count_in : Statement → ℕ
-  count_in (written.Declare sort w v) = 1
-  count_in (written.Assign w v) = 1
-  count_in (written.Do v) = 1
-  count_in (written.If t first second else) = suc (count first + count second)
-  count_in (written.While t inner) = suc (count inner)
+  count_in (written.If place t first second has_else) = suc (count first + count second)
+  count_in (written.While place t inner) = suc (count inner)
+  count_in x = 1
 
 abbrev mutual
   -- the statements by their points, which are numbered in text order from here on
@@ -50,8 +54,11 @@ abbrev mutual
   shape_from point (x ▸ xs) = node_at point x ▹ shape_from (point + count_in x) xs
 
   pub node_at : ℕ → Statement → Tree
-  node_at point (written.Declare sort w v) = Step point
+  node_at point (written.Declare place sort w v) = Step point
   node_at point (written.Assign w v) = Step point
   node_at point (written.Do v) = Step point
-  node_at point (written.If t first second else) = If point (shape_from (suc point) first) (shape_from (suc point + count first) second)
-  node_at point (written.While t inner) = While point (shape_from (suc point) inner)
+  node_at point (written.If place t first second has_else) = If point (shape_from (suc point) first) (shape_from (suc point + count first) second)
+  node_at point (written.While place t inner) = While point (shape_from (suc point) inner)
+  node_at point (written.Break place) = Break point
+  node_at point (written.Continue place) = Continue point
+  node_at point (written.Return r) = Return point

@@ -6,7 +6,7 @@ use Rattle.client_model.specs.Contexts.{Context, Situated, Variable, nothing_yet
 use Rattle.client_model.specs.Lookups.{class_of, is_literal}
 use Rattle.client_model.specs.Nodes.{shape_from, tree_of, trees}
 use Rattle.client_model.specs.Program.{Program}
-use Rattle.client_model.specs.Statements.{Statement, Statements, Declare, Assign, Do, If, While}
+use Rattle.client_model.specs.Statements.{Statement, Statements, Declare, Assign, Do, If, While, Break, Continue, Return}
 use Rattle.client_model.specs.declared.form.CallSite.{CallSite}
 use Rattle.client_model.specs.declared.form.Point.{Point}
 use Rattle.client_model.specs.declared.form.Point.TheVariants as point
@@ -46,12 +46,15 @@ branch c (test.Call x) = point.Branch (Some c.calls)
 
 -- what is done before the point of a statement
 abbrev pub done_at : Form → Context → Statement → Point
-done_at form c (Declare sort w None) = point.Nothing
-done_at form c (Declare sort w (Some v)) = assigns c (option_map (λ class. variable_code c.variables) (class_of form sort)) v
+done_at form c (Declare at sort w None) = point.Nothing
+done_at form c (Declare at sort w (Some v)) = assigns c (option_map (λ class. variable_code c.variables) (class_of form sort)) v
 done_at form c (Assign w v) = assigns c (code_of c w) v
 done_at form c (Do v) = assigns c None v
-done_at form c (If t first second written) = branch c t
-done_at form c (While t inner) = branch c t
+done_at form c (If at t first second written) = branch c t
+done_at form c (While at t inner) = branch c t
+done_at form c (Break at) = point.Nothing
+done_at form c (Continue at) = point.Nothing
+done_at form c (Return r) = point.Nothing
 
 abbrev pub point_of : Form → Situated → Point
 point_of form s = done_at form s.context s.statement
@@ -86,11 +89,14 @@ abbrev pub declared_at : Form → Situated → Option (Option ℕ)
 declared_at form s = declared_by form s.statement
   where
     declared_by : Form → Statement → Option (Option ℕ)
-    declared_by form (Declare sort w v) = Some (class_of form sort)
+    declared_by form (Declare at sort w v) = Some (class_of form sort)
     declared_by form (Assign w v) = None
     declared_by form (Do v) = None
-    declared_by form (If t first second written) = None
-    declared_by form (While t inner) = None
+    declared_by form (If at t first second written) = None
+    declared_by form (While at t inner) = None
+    declared_by form (Break at) = None
+    declared_by form (Continue at) = None
+    declared_by form (Return r) = None
 
 -- the checked form of a body without parameters
 pub record IsProgramOf (form : Form) (body : Statements) (p : Program) : Type 0 where

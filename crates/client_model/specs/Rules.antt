@@ -16,7 +16,7 @@ use Rattle.easl_model.specs.declared.tree.Word.{Word}
 
 -- a local is named as a variable in scope
 pub data HasDuplicate (s : Situated) : Place → Type 0 where
-  local : (of : Sort) (w : Word) (v : Option Rhs) → s.statement ≡ Declare of w v → IsSome (variable_named s.context w.name) → HasDuplicate s w.place
+  local : (at : Place) (of : Sort) (w : Word) (v : Option Rhs) → s.statement ≡ Declare at of w v → IsSome (variable_named s.context w.name) → HasDuplicate s w.place
 
 -- the statement reads the variable of this name: a receiver, or an operand that is no literal
 pub data Reads (s : Situated) : Word → Type 0 where
@@ -25,7 +25,7 @@ pub data Reads (s : Situated) : Word → Type 0 where
 
 -- a class, a variable or a method is not there
 pub data HasUnknown (form : Form) (s : Situated) : Place → Type 0 where
-  type : (w name : Word) (v : Option Rhs) → s.statement ≡ Declare (sort.Class w) name v → class_named form w.name ≡ None → HasUnknown form s w.place
+  type : (at : Place) (w name : Word) (v : Option Rhs) → s.statement ≡ Declare at (sort.Class w) name v → class_named form w.name ≡ None → HasUnknown form s w.place
   made : (x : New) → value_in s.statement ≡ Some (rhs.New x) → class_named form x.class.name ≡ None → HasUnknown form s x.class.place
   read : (w : Word) → Reads s w → variable_named s.context w.name ≡ None → HasUnknown form s w.place
   assigned : (w : Word) (v : Rhs) → s.statement ≡ Assign w v → variable_named s.context w.name ≡ None → HasUnknown form s w.place

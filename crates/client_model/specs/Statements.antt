@@ -1,7 +1,9 @@
 -- Statements as plain trees, with a list type of their own.
 use Rattle.std.specs.Prelude.{Bool, List, [], ◌∷◌, Option}
+use Rattle.easl_model.specs.declared.place.Place.{Place}
 use Rattle.easl_model.specs.declared.tree.Sort.{Sort}
 use Rattle.easl_model.specs.declared.tree.Word.{Word}
+use Rattle.client_model.specs.declared.tree.Return.{Return as Returned}
 use Rattle.client_model.specs.declared.tree.Rhs.{Rhs}
 use Rattle.client_model.specs.declared.tree.Test.{Test}
 use Rattle.client_model.specs.declared.tree.Stmt.{Stmt, fold-Stmt}
@@ -11,12 +13,17 @@ use Rattle.client_model.specs.declared.tree.Stmt.TheOpen as layer
 infixr 20 ◌▸◌
 mutual
   pub data Statement : Type 0 where
-    Declare : Sort → Word → Option Rhs → Statement
+    -- the place of its first token, its type and name, and its value if one is written
+    Declare : Place → Sort → Word → Option Rhs → Statement
     Assign : Word → Rhs → Statement
     Do : Rhs → Statement
-    -- the test, what is done where it is true and where not, and whether `else` is written
-    If : Test → Statements → Statements → Bool → Statement
-    While : Test → Statements → Statement
+    -- the place of its keyword, the test, what is done where it is true and where not, and whether `else` is written
+    If : Place → Test → Statements → Statements → Bool → Statement
+    While : Place → Test → Statements → Statement
+    -- the place of its keyword
+    Break : Place → Statement
+    Continue : Place → Statement
+    Return : Returned → Statement
 
   pub data Statements : Type 0 where
     none : Statements
@@ -27,11 +34,14 @@ statements [] = none
 statements (s ∷ rest) = s ▸ statements rest
 
 abbrev pub rooted : Stmt-F Statement → Statement
-rooted (layer.Declare sort name value) = Declare sort name value
+rooted (layer.Declare place sort name value) = Declare place sort name value
 rooted (layer.Assign target value) = Assign target value
 rooted (layer.Do action) = Do action
-rooted (layer.If test first second written) = If test (statements first) (statements second) written
-rooted (layer.While test body) = While test (statements body)
+rooted (layer.If place test first second written) = If place test (statements first) (statements second) written
+rooted (layer.While place test body) = While place test (statements body)
+rooted (layer.Break place) = Break place
+rooted (layer.Continue place) = Continue place
+rooted (layer.Return written) = Return written
 
 abbrev pub statement_of : Stmt → Statement
 statement_of = fold-Stmt Statement rooted

@@ -1,5 +1,5 @@
 -- Clients whose only item is a `main` of straight code.
-use Rattle.std.specs.Prelude.{◌≡◌, [], ◌∷◌, List, Some, None, codes, map}
+use Rattle.std.specs.Prelude.{◌≡◌, [], ◌∷◌, List, Some, codes, map}
 use Rattle.client_model.specs.Statements.{Statement, Statements, Declare, Do, none, statements, statement_of, ◌▸◌}
 use Rattle.client_model.specs.declared.tree.Client.{Client}
 use Rattle.client_model.specs.declared.tree.Proc.{Proc}
@@ -7,12 +7,11 @@ use Rattle.client_model.specs.declared.tree.Rhs.TheVariants as rhs
 use Rattle.client_model.specs.declared.tree.Stmt.{Stmt}
 use Rattle.easl_model.specs.declared.tree.Sort.TheVariants as sort
 
--- `void main()`, without a `return`
+-- `void main()`
 pub record IsBareMain (main : Proc) : Type 0 where
   pub result : main.result ≡ sort.Void
   pub name : main.name.name ≡ codes "main"
   pub params : main.params ≡ []
-  pub last : main.last ≡ None
 
 -- the only item is `main`, and these are its statements
 pub record IsMain (client : Client) (items : List Stmt) : Type 0 where
@@ -24,8 +23,8 @@ pub record IsMain (client : Client) (items : List Stmt) : Type 0 where
 
 -- a component variable with a construction or a component call, or a component call alone
 abbrev pub IsStraight : Statement → Type 0
-IsStraight (Declare (sort.Class class) name (Some (rhs.New x))) = Unit {0}
-IsStraight (Declare (sort.Class class) name (Some (rhs.Component x))) = Unit {0}
+IsStraight (Declare at (sort.Class class) name (Some (rhs.New x))) = Unit {0}
+IsStraight (Declare at (sort.Class class) name (Some (rhs.Component x))) = Unit {0}
 IsStraight (Do (rhs.Component x)) = Unit {0}
 IsStraight x = ⊥
 

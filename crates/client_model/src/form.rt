@@ -17,12 +17,16 @@ pub struct Procedure {
     pub shape: Items<Node>,
 }
 
-/// A statement by its point: one that holds no others, an `if` with both its branches, or a `while`.
+/// A statement by its point: one after which the next of its block is done, an `if` with both its branches, a `while`, or
+/// one that goes elsewhere.
 #[derive(Debug, Drop)]
 pub enum Node {
     Step(u32),
     If(u32, Items<Node>, Items<Node>),
     While(u32, Items<Node>),
+    Break(u32),
+    Continue(u32),
+    Return(u32),
 }
 
 /// What is done at a point.

@@ -12,23 +12,23 @@ pub struct Client {
     pub end: Place,
 }
 
-/// A static with its initial value, which is no call of a procedure.
+/// A static with its initial value, which is no call of a procedure, and the place of its keyword.
 #[derive(Debug, Drop)]
 pub struct Static {
+    pub place: Place,
     pub sort: Sort,
     pub name: Word,
     pub value: Rhs,
 }
 
-/// A procedure: `last` is the `return` that ends its body, if one is written there, and `end` is the place of its
-/// closing brace.
+/// A procedure: `place` is that of its first token, and `end` is the place of its closing brace.
 #[derive(Debug, Drop)]
 pub struct Proc {
+    pub place: Place,
     pub result: Sort,
     pub name: Word,
     pub params: Items<Param>,
     pub body: Items<Stmt>,
-    pub last: Option<Return>,
     pub end: Place,
 }
 
@@ -39,17 +39,24 @@ pub struct Return {
     pub value: Option<Word>,
 }
 
+/// A statement. Its first token is where its name, its call or its construction begins, or its own place tells it.
 #[derive(Debug, Drop)]
 pub enum Stmt {
-    /// A local's type and name, and its value if one is written.
-    Declare(Sort, Word, Option<Rhs>),
+    /// A local's type and name, and its value if one is written, with the place of the type.
+    Declare(Place, Sort, Word, Option<Rhs>),
     Assign(Word, Rhs),
     /// A call or a construction whose result is not used.
     Do(Rhs),
-    /// The test, what is done where it is true and where not, and whether `else` is written. Without it
-    /// nothing is done where the test is false.
-    If(Test, Items<Stmt>, Items<Stmt>, bool),
-    While(Test, Items<Stmt>),
+    /// The place of the `if`, the test, what is done where it is true and where not, and whether `else` is written.
+    /// Without it nothing is done where the test is false.
+    If(Place, Test, Items<Stmt>, Items<Stmt>, bool),
+    /// The place of the `while`, the test, and what is done as long as it is true.
+    While(Place, Test, Items<Stmt>),
+    /// The innermost `while` is left, with the place of the keyword.
+    Break(Place),
+    /// The innermost `while` asks again, with the place of the keyword.
+    Continue(Place),
+    Return(Return),
 }
 
 /// What an `if` or a `while` asks.
