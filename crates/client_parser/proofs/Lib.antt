@@ -1,6 +1,9 @@
+pub mod Firsts
 pub mod Gathered
 pub mod ItemLaws
+pub mod LeavingLaws
 pub mod Levels
+pub mod Limited
 pub mod SimpleLaws
 pub mod StmtLaws
 pub mod Theorems

@@ -2,11 +2,13 @@
 use Rattle.std.proofs.Common.{◌≡◌, ℕ, Bool, Some, None, List, [], ◌∷◌, ◌++◌, refl, sym, ◌∙◌, ap, subst, inl, inr}
 use Rattle.easl_model.specs.Grammar.{IsType, opaque_type, class_type}
 use Rattle.easl_model.specs.Lexemes.{word_of, IsMark, IsName}
+use Rattle.easl_model.specs.declared.place.Place.{Place}
 use Rattle.easl_model.specs.declared.token.Key.TheVariants as key
 use Rattle.easl_model.specs.declared.token.Kind.{Kind}
 use Rattle.easl_model.specs.declared.token.Kind.TheVariants as kind
 use Rattle.easl_model.specs.declared.token.Mark.TheVariants as mark
 use Rattle.easl_model.specs.declared.token.Token.{Token}
+use Rattle.easl_model.specs.declared.tree.Opaque.{Opaque}
 use Rattle.easl_model.specs.declared.tree.Sort.{Sort}
 use Rattle.easl_model.specs.declared.tree.Sort.TheVariants as sort
 use Rattle.easl_model.specs.declared.tree.Word.{Word}
@@ -16,13 +18,13 @@ use Rattle.client_model.specs.declared.tree.Rhs.TheVariants as rhs
 use Rattle.client_model.specs.declared.tree.Stmt.{Stmt}
 use Rattle.client_model.specs.declared.tree.Stmt.TheVariants as stmt
 use Rattle.cv_read.specs.Read.{is_mark, is_key, is_name, nothing_of, place_of}
-use Rattle.cv_read.specs.Types.{is_opaque, type_starts}
-use Rattle.cv_read.proofs.Laws.{Lang, Is, none, either, Front, Apart, Then, Mapped, Or, End, avoids_none, front_less, then_starts}
+use Rattle.cv_read.specs.Types.{is_opaque, opaque_of, placed_opaque, type_starts}
+use Rattle.cv_read.proofs.Laws.{Lang, Is, none, either, Front, Apart, Mapped, Or, End, front_less}
 use Rattle.cv_read.proofs.Levels.{mark_flat, key_flat, name_flat}
 use Rattle.cv_read.proofs.Repeats.{or_left, or_right}
 use Rattle.cv_read.proofs.Tested.{mark_to, mark_from, name_to, name_from}
-use Rattle.cv_read.proofs.TypeLaws.{OpaqueLang, opaque_from, opaque_same, opaque_begins, opaque_spelled, opaque_within}
-use Rattle.cv_read.proofs.Within.{ReadsWithin, got_within, mapped_within, respell_within, both_within, closed_within, led_within, two_ways_within}
+use Rattle.cv_read.proofs.TypeLaws.{opaque_flat, opaque_from, opaque_same, opaque_to}
+use Rattle.cv_read.proofs.Within.{ReadsWithin, got_within, mapped_within, respell_within, closed_within, led_within, two_ways_within}
 use Rattle.cv_read.proofs.Words.{Led, Closed, led_starts}
 use Rattle.client_parser.specs.Reading.{set_at, declare_at, done_by, action_behind, new_done_at, named_stmt_at, simple_at, simple_starts}
 use Rattle.client_parser.proofs.ValueLaws.{ComponentTail, CallTail, NewTail, component_to, component_from, component_tail_begins, component_tail_within, call_to, call_from, call_tail_begins, call_tail_within, new_to, new_from, new_tail_within, rhs_within}
@@ -78,32 +80,32 @@ module _ (text : List ℕ) where
   set_begins : (w : List Token) (x : Rhs) → IsSet text w x → Front (is_mark mark.Assign) w
   set_begins w x (set {assign = a} i h j) = mark_from mark.Assign a i
 
-  -- declarations behind their types
-  abbrev DeclareBehind : Sort → Word → Lang Stmt
-  DeclareBehind s n = Or (Led (is_mark mark.Semicolon) nothing_of (λ _. End (stmt.Declare s n None))) (Mapped (IsSet text) (λ x. stmt.Declare s n (Some x)))
+  -- declarations behind their types, which begin at the place
+  abbrev DeclareBehind : Place → Sort → Word → Lang Stmt
+  DeclareBehind at s n = Or (Led (is_mark mark.Semicolon) nothing_of (λ _. End (stmt.Declare at s n None))) (Mapped (IsSet text) (λ x. stmt.Declare at s n (Some x)))
 
-  abbrev DeclareTail : Sort → Lang Stmt
-  DeclareTail s = Led is_name (word_of text) (DeclareBehind s)
+  abbrev DeclareTail : Place → Sort → Lang Stmt
+  DeclareTail at s = Led is_name (word_of text) (DeclareBehind at s)
 
-  declare_tail_within : (s : Sort) (G : Kind → Bool) (d : ℕ) → ReadsWithin (declare_at text s) (DeclareTail s) G d
-  declare_tail_within s G d = led_within is_name (word_of text) kind.Name tt name_flat
+  declare_tail_within : (at : Place) (s : Sort) (G : Kind → Bool) (d : ℕ) → ReadsWithin (declare_at text at s) (DeclareTail at s) G d
+  declare_tail_within at s G d = led_within is_name (word_of text) kind.Name tt name_flat
       (λ n. two_ways_within (is_mark mark.Semicolon) (is_mark mark.Assign)
-      (led_starts (is_mark mark.Semicolon) nothing_of (λ _. End (stmt.Declare s n None)))
+      (led_starts (is_mark mark.Semicolon) nothing_of (λ _. End (stmt.Declare at s n None)))
       (λ w x h. set_begins w h.0 h.1) assign_no_semicolon
-      (led_within (is_mark mark.Semicolon) nothing_of (kind.Mark mark.Semicolon) tt (mark_flat mark.Semicolon (λ b. refl)) (λ _. got_within (stmt.Declare s n None) G d))
-      (mapped_within (λ x. stmt.Declare s n (Some x)) (set_within G d)))
+      (led_within (is_mark mark.Semicolon) nothing_of (kind.Mark mark.Semicolon) tt (mark_flat mark.Semicolon (λ b. refl)) (λ _. got_within (stmt.Declare at s n None) G d))
+      (mapped_within (λ x. stmt.Declare at s n (Some x)) (set_within G d)))
 
-  declare_to : (ts : List Token) (s : Sort) → IsType text ts s → (u : List Token) (x : Stmt) → DeclareTail s u x → IsStmt text (ts ++ u) x
-  declare_to ts s i u x h = by h.3
+  declare_to : (t : Token) (s : Sort) → IsType text (t ∷ []) s → (u : List Token) (x : Stmt) → DeclareTail t.place s u x → IsStmt text (t ∷ u) x
+  declare_to t s i u x h = by h.3
     where
       name : IsName text h.0 (word_of text h.0)
       name = name_to text h.0 (word_of text h.0) h.2 refl
 
-      by : DeclareBehind s (word_of text h.0) h.1 x → IsStmt text (ts ++ u) x
+      by : DeclareBehind t.place s (word_of text h.0) h.1 x → IsStmt text (t ∷ u) x
       by (inl l) =
           let e : u ≡ h.0 ∷ l.0 ∷ [] = h.4 ∙ ap (λ v. h.0 ∷ v) (l.4 ∙ ap (λ v. l.0 ∷ v) l.3.0) in
-          subst (IsStmt text (ts ++ u)) (sym l.3.1) (subst (λ m. IsStmt text (ts ++ m) (stmt.Declare s (word_of text h.0) None)) (sym e) (declare i name (mark_to mark.Semicolon l.0 l.2)))
-      by (inr l) = subst (IsStmt text (ts ++ u)) (sym l.2) (subst (λ m. IsStmt text (ts ++ m) (stmt.Declare s (word_of text h.0) (Some l.0))) (sym h.4) (declare_set i name l.1))
+          subst (IsStmt text (t ∷ u)) (sym l.3.1) (subst (λ m. IsStmt text (t ∷ m) (stmt.Declare t.place s (word_of text h.0) None)) (sym e) (declare i name (mark_to mark.Semicolon l.0 l.2)))
+      by (inr l) = subst (IsStmt text (t ∷ u)) (sym l.2) (subst (λ m. IsStmt text (t ∷ m) (stmt.Declare t.place s (word_of text h.0) (Some l.0))) (sym h.4) (declare_set i name l.1))
 
   -- actions behind their first tokens, and their semicolons
   abbrev ActionTail : Word → Lang Rhs
@@ -152,7 +154,7 @@ module _ (text : List ℕ) where
   UsedTail w = Or (AssignTail w) (DoTail w)
 
   abbrev NamedTail : Word → Lang Stmt
-  NamedTail w = Or (DeclareTail (sort.Class w)) (UsedTail w)
+  NamedTail w = Or (DeclareTail w.place (sort.Class w)) (UsedTail w)
 
   abbrev NamedLang : Lang Stmt
   NamedLang = Led is_name (word_of text) NamedTail
@@ -163,24 +165,30 @@ module _ (text : List ℕ) where
 
   named_within : (G : Kind → Bool) (d : ℕ) → ReadsWithin (named_stmt_at text) NamedLang G d
   named_within G d = led_within is_name (word_of text) kind.Name tt name_flat
-      (λ w. two_ways_within is_name UsedStarts (led_starts is_name (word_of text) (DeclareBehind (sort.Class w))) (used_begins w) used_no_name (declare_tail_within (sort.Class w) G d)
+      (λ w. two_ways_within is_name UsedStarts (led_starts is_name (word_of text) (DeclareBehind w.place (sort.Class w))) (used_begins w) used_no_name (declare_tail_within w.place (sort.Class w) G d)
       (two_ways_within (is_mark mark.Assign) ActionStarts (λ u x h. set_begins u h.0 h.1) (do_begins w) action_no_assign (mapped_within (stmt.Assign w) (set_within G d)) (do_tail_within w G d)))
 
   named_to : (t : Token) → Is (is_name t.kind) → (u : List Token) (x : Stmt) → NamedTail (word_of text t) u x → IsStmt text (t ∷ u) x
-  named_to t i u x (inl h) = declare_to (t ∷ []) (sort.Class (word_of text t)) (class_type (name_to text t (word_of text t) i refl)) u x h
+  named_to t i u x (inl h) = declare_to t (sort.Class (word_of text t)) (class_type (name_to text t (word_of text t) i refl)) u x h
   named_to t i u x (inr (inl h)) = subst (IsStmt text (t ∷ u)) (sym h.2) (assign (name_to text t (word_of text t) i refl) h.1)
   named_to t i u x (inr (inr h)) = let l = h.1 in done_to (t ∷ l.0) (t ∷ u) l.1 h.0 x (action_to t i l.0 h.0 l.2) l.3 (ap (λ v. t ∷ v) l.4) h.2
 
   -- statements that begin with a type or with `new`
+  abbrev OpaqueDeclare : Lang Stmt
+  OpaqueDeclare = Led is_opaque placed_opaque (λ o. DeclareTail o.0 (sort.Opaque o.1))
+
   abbrev TypedLang : Lang Stmt
-  TypedLang = Or NamedLang (Then OpaqueLang DeclareTail)
+  TypedLang = Or NamedLang OpaqueDeclare
+
+  opaque_begins : (w : List Token) (x : Stmt) → OpaqueDeclare w x → Front is_opaque w
+  opaque_begins = led_starts is_opaque placed_opaque (λ o. DeclareTail o.0 (sort.Opaque o.1))
 
   abbrev pub SimpleLang : Lang Stmt
   SimpleLang = Or NewDone TypedLang
 
   typed_begins : (w : List Token) (x : Stmt) → TypedLang w x → Front type_starts w
   typed_begins w x (inl h) = front_less is_name type_starts (λ k f. or_left (is_name k) (is_opaque k) f) w (led_starts is_name (word_of text) NamedTail w x h)
-  typed_begins w x (inr h) = front_less is_opaque type_starts (λ k f. or_right (is_name k) (is_opaque k) f) w (then_starts OpaqueLang DeclareTail is_opaque opaque_begins w x h)
+  typed_begins w x (inr h) = front_less is_opaque type_starts (λ k f. or_right (is_name k) (is_opaque k) f) w (opaque_begins w x h)
 
   pub simple_begins : (w : List Token) (x : Stmt) → SimpleLang w x → Front simple_starts w
   simple_begins w x (inl h) = front_less (is_key key.New) simple_starts (λ k f. or_left (is_key key.New k) (type_starts k) f) w (led_starts (is_key key.New) place_of (λ at. Mapped (Closed mark.Semicolon (NewTail text at)) stmt.Do) w x h)
@@ -189,8 +197,8 @@ module _ (text : List ℕ) where
   pub simple_within : (G : Kind → Bool) (d : ℕ) → ReadsWithin (simple_at text) SimpleLang G d
   unfolding simple_at
   simple_within G d = two_ways_within (is_key key.New) type_starts (led_starts (is_key key.New) place_of (λ at. Mapped (Closed mark.Semicolon (NewTail text at)) stmt.Do)) typed_begins type_no_new (new_done_within G d)
-      (two_ways_within is_name is_opaque (led_starts is_name (word_of text) NamedTail) (then_starts OpaqueLang DeclareTail is_opaque opaque_begins) opaque_no_name (named_within G d)
-      (both_within (opaque_within d) (λ s. declare_tail_within s G d) (λ s w k z h a. avoids_none (w ++ k))))
+      (two_ways_within is_name is_opaque (led_starts is_name (word_of text) NamedTail) opaque_begins opaque_no_name (named_within G d)
+      (led_within is_opaque placed_opaque (kind.Key key.Int) tt opaque_flat (λ o. declare_tail_within o.0 (sort.Opaque o.1) G d)))
 
   pub simple_to : (w : List Token) (x : Stmt) → SimpleLang w x → IsStmt text w x
   simple_to w x (inl h) =
@@ -198,21 +206,22 @@ module _ (text : List ℕ) where
       let n = new_to text (h.0 ∷ l.0) h.3.0 (h.0, l.0, h.2, l.2, refl) in
       done_to (h.0 ∷ l.0) w l.1 h.3.0 x (subst (IsAction text (h.0 ∷ l.0)) (sym n.2) (new_action n.1)) l.3 (h.4 ∙ ap (λ v. h.0 ∷ v) l.4) h.3.2
   simple_to w x (inr (inl h)) = subst (λ m. IsStmt text m x) (sym h.4) (named_to h.0 h.2 h.1 x h.3)
-  simple_to w x (inr (inr h)) = subst (λ m. IsStmt text m x) (sym h.5) (declare_to h.1 h.0 (opaque_spelled text h.1 h.0 h.3) h.2 x h.4)
+  simple_to w x (inr (inr h)) = subst (λ m. IsStmt text m x) (sym h.4) (declare_to h.0 (sort.Opaque (opaque_of h.0)) (opaque_type (opaque_to h.0 h.2)) h.1 x h.3)
 
   -- and back, rule by rule
-  typed_from : (ts : List Token) (s : Sort) → IsType text ts s → (u : List Token) (f : Sort → Stmt) → ((r : Sort) → DeclareTail r u (f r)) → SimpleLang (ts ++ u) (f s)
-  typed_from ts s (opaque_type {t = t} {o = o} h) u f tail = inr (inr (sort.Opaque o, t ∷ [], u, (t, [], opaque_from o t h, (refl, ap sort.Opaque (opaque_same o t h)), refl), tail (sort.Opaque o), refl))
-  typed_from ts s (class_type {t = t} {w = m} h) u f tail =
-      inr (inl (t, u, name_from text t m h, inl (subst (DeclareTail (sort.Class (word_of text t)) u) (ap (λ (v : Word). f (sort.Class v)) (sym h.word)) (tail (sort.Class (word_of text t)))), refl))
+  typed_from : (t : Token) (s : Sort) → IsType text (t ∷ []) s → (u : List Token) (f : Sort → Stmt) → ((r : Sort) → DeclareTail t.place r u (f r)) → SimpleLang (t ∷ u) (f s)
+  typed_from t s (opaque_type {o = o} h) u f tail =
+      inr (inr (t, u, opaque_from o t h, subst (λ (y : Opaque). DeclareTail t.place (sort.Opaque (opaque_of t)) u (f (sort.Opaque y))) (sym (opaque_same o t h)) (tail (sort.Opaque (opaque_of t))), refl))
+  typed_from t s (class_type {w = m} h) u f tail =
+      inr (inl (t, u, name_from text t m h, inl (subst (DeclareTail t.place (sort.Class (word_of text t)) u) (ap (λ (v : Word). f (sort.Class v)) (sym h.word)) (tail (sort.Class (word_of text t)))), refl))
 
-  pub declare_from : (ts : List Token) (s : Sort) (t k : Token) (n : Word) → IsType text ts s → IsName text t n → IsMark mark.Semicolon k → SimpleLang (ts ++ t ∷ k ∷ []) (stmt.Declare s n None)
-  declare_from ts s t k n h i j = typed_from ts s h (t ∷ k ∷ []) (λ r. stmt.Declare r n None)
-      (λ r. (t, k ∷ [], name_from text t n i, inl (k, [], mark_from mark.Semicolon k j, (refl, ap (λ (v : Word). stmt.Declare r v None) i.word), refl), refl))
+  pub declare_from : (t u k : Token) (s : Sort) (n : Word) → IsType text (t ∷ []) s → IsName text u n → IsMark mark.Semicolon k → SimpleLang (t ∷ u ∷ k ∷ []) (stmt.Declare t.place s n None)
+  declare_from t u k s n h i j = typed_from t s h (u ∷ k ∷ []) (λ r. stmt.Declare t.place r n None)
+      (λ r. (u, k ∷ [], name_from text u n i, inl (k, [], mark_from mark.Semicolon k j, (refl, ap (λ (v : Word). stmt.Declare t.place r v None) i.word), refl), refl))
 
-  pub declare_set_from : (ts us : List Token) (s : Sort) (t : Token) (n : Word) (x : Rhs) → IsType text ts s → IsName text t n → IsSet text us x → SimpleLang (ts ++ t ∷ us) (stmt.Declare s n (Some x))
-  declare_set_from ts us s t n x h i j = typed_from ts s h (t ∷ us) (λ r. stmt.Declare r n (Some x))
-      (λ r. (t, us, name_from text t n i, inr (x, j, ap (λ (v : Word). stmt.Declare r v (Some x)) i.word), refl))
+  pub declare_set_from : (t u : Token) (us : List Token) (s : Sort) (n : Word) (x : Rhs) → IsType text (t ∷ []) s → IsName text u n → IsSet text us x → SimpleLang (t ∷ u ∷ us) (stmt.Declare t.place s n (Some x))
+  declare_set_from t u us s n x h i j = typed_from t s h (u ∷ us) (λ r. stmt.Declare t.place r n (Some x))
+      (λ r. (u, us, name_from text u n i, inr (x, j, ap (λ (v : Word). stmt.Declare t.place r v (Some x)) i.word), refl))
 
   pub assign_from : (ts : List Token) (t : Token) (n : Word) (x : Rhs) → IsName text t n → IsSet text ts x → SimpleLang (t ∷ ts) (stmt.Assign n x)
   assign_from ts t n x i j = inr (inl (t, ts, name_from text t n i, inr (inl (x, j, ap (λ (v : Word). stmt.Assign v x) i.word)), refl))

@@ -40,5 +40,5 @@ tree_answers = answered.tree_answers IsClient
 pub fault_answers : (text : List ℕ) (x : Tokens) (e : ReadFault) → lex.Answers text (Ok x) → FindsTree IsClient text x.end x.list (Err e) → Answers IsClient text (Err (placed x e))
 fault_answers = answered.fault_answers IsClient
 
-pub one_answer : OneAnswer IsClient
-one_answer = answered.one_answer IsClient (λ text. client_at text 64) ClientGoes (λ text end. (client_within text 64 end).reads) (λ text end. (client_within text 64 end).bound)
+pub one_spelled : OneAnswer IsClient
+one_spelled = answered.one_answer IsClient (λ text. client_at text 64) ClientGoes (λ text end. (client_within text 64 end).reads) (λ text end. (client_within text 64 end).bound)

@@ -20,8 +20,8 @@ use Rattle.client_model.specs.declared.tree.Stmt.{Stmt}
 use Rattle.client_model.specs.declared.tree.Stmt.TheVariants as stmt
 use Rattle.client_model.specs.declared.tree.Test.{Test}
 use Rattle.client_model.specs.declared.tree.Test.TheVariants as test
-use Rattle.cv_read.specs.Read.{Read, Got, Deep, ◌>>=◌, choose, is_mark, is_key, is_name, mark_at, key_place_at, mark_place_at, name_at, literal_at, behind_mark, behind_key, before_mark, step_at, items_at, listed_at, parens_at}
-use Rattle.cv_read.specs.Types.{opaque_at, type_at, type_starts, params_at}
+use Rattle.cv_read.specs.Read.{Read, Got, Deep, ◌>>=◌, choose, is_mark, is_key, is_name, take_at, mark_at, key_place_at, mark_place_at, name_at, literal_at, behind_mark, behind_key, before_mark, step_at, items_at, listed_at, parens_at}
+use Rattle.cv_read.specs.Types.{is_opaque, placed_opaque, type_at, type_starts, params_at}
 use Rattle.client_parser.specs.declared.items.Item.{Item}
 use Rattle.client_parser.specs.declared.items.Item.TheVariants as item
 
@@ -81,22 +81,22 @@ initial_at text = value_by text (initial_behind text)
 unfoldable pub rhs_at : List ℕ → List Token → Read Rhs
 rhs_at text = value_by text (rhs_behind text)
 
--- statements that hold no others
+-- declarations, assignments and actions
 unfoldable pub set_at : List ℕ → List Token → Read Rhs
 set_at text = behind_mark mark.Assign (before_mark mark.Semicolon (rhs_at text))
 
--- a declaration behind its type and name, and behind its type
-abbrev pub declare_set_at : List ℕ → Sort → Word → List Token → Read Stmt
-declare_set_at text s n ts = set_at text ts >>= λ x us. Got (stmt.Declare s n (Some x)) us
+-- a declaration behind its type and name, and behind its type, which begins at the place
+abbrev pub declare_set_at : List ℕ → Place → Sort → Word → List Token → Read Stmt
+declare_set_at text at s n ts = set_at text ts >>= λ x us. Got (stmt.Declare at s n (Some x)) us
 
-abbrev pub declare_behind : List ℕ → Sort → Word → List Token → Read Stmt
-declare_behind text s n = choose (is_mark mark.Semicolon) (behind_mark mark.Semicolon (λ us. Got (stmt.Declare s n None) us)) (declare_set_at text s n)
+abbrev pub declare_behind : List ℕ → Place → Sort → Word → List Token → Read Stmt
+declare_behind text at s n = choose (is_mark mark.Semicolon) (behind_mark mark.Semicolon (λ us. Got (stmt.Declare at s n None) us)) (declare_set_at text at s n)
 
-abbrev pub declare_at : List ℕ → Sort → List Token → Read Stmt
-declare_at text s ts = name_at text ts >>= λ n us. declare_behind text s n us
+abbrev pub declare_at : List ℕ → Place → Sort → List Token → Read Stmt
+declare_at text at s ts = name_at text ts >>= λ n us. declare_behind text at s n us
 
 abbrev pub opaque_declare_at : List ℕ → List Token → Read Stmt
-opaque_declare_at text ts = opaque_at ts >>= λ s us. declare_at text s us
+opaque_declare_at text ts = take_at is_opaque placed_opaque ts >>= λ o us. declare_at text o.0 (sort.Opaque o.1) us
 
 abbrev pub assign_at : List ℕ → Word → List Token → Read Stmt
 assign_at text n ts = set_at text ts >>= λ x us. Got (stmt.Assign n x) us
@@ -116,7 +116,7 @@ abbrev pub used_behind : List ℕ → Word → List Token → Read Stmt
 used_behind text w = choose (is_mark mark.Assign) (assign_at text w) (done_by (action_behind text w))
 
 abbrev pub stmt_behind : List ℕ → Word → List Token → Read Stmt
-stmt_behind text w = choose is_name (declare_at text (sort.Class w)) (used_behind text w)
+stmt_behind text w = choose is_name (declare_at text w.place (sort.Class w)) (used_behind text w)
 
 abbrev pub named_stmt_at : List ℕ → List Token → Read Stmt
 named_stmt_at text ts = name_at text ts >>= λ w us. stmt_behind text w us
@@ -126,6 +126,42 @@ typed_stmt_at text = choose is_name (named_stmt_at text) (opaque_declare_at text
 
 unfoldable pub simple_at : List ℕ → List Token → Read Stmt
 simple_at text = choose (is_key key.New) (new_done_at text) (typed_stmt_at text)
+
+-- behind `return`
+abbrev pub bare_return_at : Place → List Token → Read Return
+bare_return_at at = behind_mark mark.Semicolon (λ us. Got (record { place = at; value = None }) us)
+
+abbrev pub value_return_at : List ℕ → Place → List Token → Read Return
+value_return_at text at ts = before_mark mark.Semicolon (arg_at text) ts >>= λ w us. Got (record { place = at; value = Some w }) us
+
+abbrev pub return_behind : List ℕ → Place → List Token → Read Return
+return_behind text at = choose (is_mark mark.Semicolon) (bare_return_at at) (value_return_at text at)
+
+abbrev pub return_stmt_behind : List ℕ → Place → List Token → Read Stmt
+return_stmt_behind text at ts = return_behind text at ts >>= λ r us. Got (stmt.Return r) us
+
+-- a statement whose keyword was read, and its semicolon
+abbrev pub ended_by : Stmt → List Token → Read Stmt
+ended_by x = behind_mark mark.Semicolon (λ us. Got x us)
+
+abbrev pub break_at : List Token → Read Stmt
+break_at ts = key_place_at key.Break ts >>= λ at us. ended_by (stmt.Break at) us
+
+abbrev pub continue_at : List Token → Read Stmt
+continue_at ts = key_place_at key.Continue ts >>= λ at us. ended_by (stmt.Continue at) us
+
+abbrev pub return_at : List ℕ → List Token → Read Stmt
+return_at text ts = key_place_at key.Return ts >>= λ at us. return_stmt_behind text at us
+
+-- statements that hold no others
+abbrev pub no_continue_at : List ℕ → List Token → Read Stmt
+no_continue_at text = choose (is_key key.Return) (return_at text) (simple_at text)
+
+abbrev pub no_break_at : List ℕ → List Token → Read Stmt
+no_break_at text = choose (is_key key.Continue) continue_at (no_continue_at text)
+
+unfoldable pub no_while_at : List ℕ → List Token → Read Stmt
+no_while_at text = choose (is_key key.Break) break_at (no_break_at text)
 
 -- tests
 abbrev pub free_at : List Token → Read Test
@@ -144,30 +180,45 @@ guard_at text = parens_at (test_at text)
 abbrev pub block_by : (List Token → Read (List Stmt)) → List Token → Read (List Stmt)
 block_by stmts = behind_mark mark.Begin (before_mark mark.End stmts)
 
-abbrev pub else_by : (List Token → Read (List Stmt)) → Test → List Stmt → List Token → Read Stmt
-else_by block t xs ts = behind_key key.Else block ts >>= λ ys us. Got (stmt.If t xs ys true) us
+abbrev pub else_by : (List Token → Read (List Stmt)) → Place → Test → List Stmt → List Token → Read Stmt
+else_by block at t xs ts = behind_key key.Else block ts >>= λ ys us. Got (stmt.If at t xs ys true) us
 
-abbrev pub end_if_by : (List Token → Read (List Stmt)) → Test → List Stmt → List Token → Read Stmt
-end_if_by block t xs = choose (is_key key.Else) (else_by block t xs) (λ ts. Got (stmt.If t xs [] false) ts)
+abbrev pub end_if_by : (List Token → Read (List Stmt)) → Place → Test → List Stmt → List Token → Read Stmt
+end_if_by block at t xs = choose (is_key key.Else) (else_by block at t xs) (λ ts. Got (stmt.If at t xs [] false) ts)
 
 -- behind `if`, and behind `while`
-unfoldable pub if_by : List ℕ → (List Token → Read (List Stmt)) → List Token → Read Stmt
-if_by text block ts = guard_at text ts >>= λ t us. block us >>= λ xs vs. end_if_by block t xs vs
+unfoldable pub if_by : List ℕ → (List Token → Read (List Stmt)) → Place → List Token → Read Stmt
+if_by text block at ts = guard_at text ts >>= λ t us. block us >>= λ xs vs. end_if_by block at t xs vs
 
-unfoldable pub while_by : List ℕ → (List Token → Read (List Stmt)) → List Token → Read Stmt
-while_by text block ts = guard_at text ts >>= λ t us. block us >>= λ xs vs. Got (stmt.While t xs) vs
+unfoldable pub while_by : List ℕ → (List Token → Read (List Stmt)) → Place → List Token → Read Stmt
+while_by text block at ts = guard_at text ts >>= λ t us. block us >>= λ xs vs. Got (stmt.While at t xs) vs
+
+abbrev pub if_stmt_by : List ℕ → (List Token → Read (List Stmt)) → List Token → Read Stmt
+if_stmt_by text block ts = key_place_at key.If ts >>= λ at us. if_by text block at us
+
+abbrev pub while_stmt_by : List ℕ → (List Token → Read (List Stmt)) → List Token → Read Stmt
+while_stmt_by text block ts = key_place_at key.While ts >>= λ at us. while_by text block at us
 
 abbrev pub no_if_by : List ℕ → (List Token → Read (List Stmt)) → List Token → Read Stmt
-no_if_by text block = choose (is_key key.While) (behind_key key.While (while_by text block)) (simple_at text)
+no_if_by text block = choose (is_key key.While) (while_stmt_by text block) (no_while_at text)
 
 abbrev pub stmt_by : List ℕ → (List Token → Read (List Stmt)) → List Token → Read Stmt
-stmt_by text block = choose (is_key key.If) (behind_key key.If (if_by text block)) (no_if_by text block)
+stmt_by text block = choose (is_key key.If) (if_stmt_by text block) (no_if_by text block)
 
 abbrev pub simple_starts : Kind → Bool
 simple_starts k = is_key key.New k || type_starts k
 
+abbrev pub no_continue_starts : Kind → Bool
+no_continue_starts k = is_key key.Return k || simple_starts k
+
+abbrev pub no_break_starts : Kind → Bool
+no_break_starts k = is_key key.Continue k || no_continue_starts k
+
+abbrev pub no_while_starts : Kind → Bool
+no_while_starts k = is_key key.Break k || no_break_starts k
+
 abbrev pub no_if_starts : Kind → Bool
-no_if_starts k = is_key key.While k || simple_starts k
+no_if_starts k = is_key key.While k || no_while_starts k
 
 abbrev pub stmt_starts : Kind → Bool
 stmt_starts k = is_key key.If k || no_if_starts k
@@ -189,39 +240,36 @@ stmt_at text d = stmt_by text (block_at text d)
 abbrev pub maybe_stmt_at : List ℕ → ℕ → List Token → Read (Option Stmt)
 maybe_stmt_at text d = maybe_stmt_by text (block_at text d)
 
--- behind `return`
-abbrev pub bare_return_at : Place → List Token → Read (Option Return)
-bare_return_at at = behind_mark mark.Semicolon (λ us. Got (Some (record { place = at; value = None })) us)
-
-abbrev pub value_return_at : List ℕ → Place → List Token → Read (Option Return)
-value_return_at text at ts = before_mark mark.Semicolon (arg_at text) ts >>= λ w us. Got (Some (record { place = at; value = Some w })) us
-
-abbrev pub return_behind : List ℕ → Place → List Token → Read (Option Return)
-return_behind text at = choose (is_mark mark.Semicolon) (bare_return_at at) (value_return_at text at)
-
-abbrev pub some_return_at : List ℕ → List Token → Read (Option Return)
-some_return_at text ts = key_place_at key.Return ts >>= λ at us. return_behind text at us
-
-unfoldable pub return_at : List ℕ → List Token → Read (Option Return)
-return_at text = choose (is_key key.Return) (some_return_at text) (λ ts. Got None ts)
-
 -- statics and procedures
 unfoldable pub initialised_at : List ℕ → List Token → Read Rhs
 initialised_at text = behind_mark mark.Assign (before_mark mark.Semicolon (initial_at text))
 
 -- a static behind its keyword
-unfoldable pub static_behind : List ℕ → List Token → Read Static
-static_behind text ts = type_at text ts >>= λ s us. name_at text us >>= λ n vs. initialised_at text vs >>= λ x ws. Got (record { sort = s; name = n; value = x }) ws
+unfoldable pub static_behind : List ℕ → Place → List Token → Read Static
+static_behind text at ts = type_at text ts >>= λ s us. name_at text us >>= λ n vs. initialised_at text vs >>= λ x ws. Got (record { place = at; sort = s; name = n; value = x }) ws
 
 abbrev pub static_at : List ℕ → List Token → Read Static
-static_at text = behind_key key.Static (static_behind text)
+static_at text ts = key_place_at key.Static ts >>= λ at us. static_behind text at us
 
-abbrev pub result_at : List ℕ → List Token → Read Sort
-result_at text = choose (is_key key.Void) (behind_key key.Void (λ us. Got sort.Void us)) (type_at text)
+-- results with the places of their tokens
+abbrev pub opaque_result_at : List Token → Read (Place × Sort)
+opaque_result_at ts = take_at is_opaque placed_opaque ts >>= λ o us. Got (o.0, sort.Opaque o.1) us
+
+abbrev pub class_result_at : List ℕ → List Token → Read (Place × Sort)
+class_result_at text ts = name_at text ts >>= λ w us. Got (w.place, sort.Class w) us
+
+abbrev pub some_result_at : List ℕ → List Token → Read (Place × Sort)
+some_result_at text = choose is_opaque opaque_result_at (class_result_at text)
+
+abbrev pub void_result_at : List Token → Read (Place × Sort)
+void_result_at ts = key_place_at key.Void ts >>= λ at us. Got (at, sort.Void) us
+
+abbrev pub result_at : List ℕ → List Token → Read (Place × Sort)
+result_at text = choose (is_key key.Void) void_result_at (some_result_at text)
 
 unfoldable pub proc_at : List ℕ → ℕ → List Token → Read Proc
-proc_at text d ts = result_at text ts >>= λ r us. name_at text us >>= λ n vs. params_at text vs >>= λ ps ws. mark_at mark.Begin ws >>= λ _ xs. stmts_at text d xs >>= λ ss ys. return_at text ys >>= λ x zs. mark_place_at mark.End zs >>= λ e bs.
-    Got (record { result = r; name = n; params = ps; body = ss; last = x; end = e }) bs
+proc_at text d ts = result_at text ts >>= λ r us. name_at text us >>= λ n vs. params_at text vs >>= λ ps ws. mark_at mark.Begin ws >>= λ _ xs. stmts_at text d xs >>= λ ss ys. mark_place_at mark.End ys >>= λ e zs.
+    Got (record { place = r.0; result = r.1; name = n; params = ps; body = ss; end = e }) zs
 
 -- items
 abbrev pub static_item_at : List ℕ → List Token → Read Item

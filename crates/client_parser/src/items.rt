@@ -1,15 +1,16 @@
 //! Statics and procedures.
 ghost use Rattle.std.specs.Prelude.{◌≡◌, ◌<◌, ◌≤◌, length, IfOk, IsSome};
 ghost use Rattle.cv_read.specs.Read.{Gives, begins};
-ghost use Rattle.client_parser.specs.Reading.{initialised_at, static_behind, result_at, proc_at, proc_item_at, item_at, item_starts, maybe_item_at};
+ghost use Rattle.client_parser.specs.Reading.{initialised_at, static_behind, class_result_at, some_result_at, result_at, proc_at, proc_item_at, item_at, item_starts, maybe_item_at};
 
-use crate::statements::{returned, stmts};
+use crate::statements::stmts;
 use crate::values::initial;
 use client_model::{Proc, Rhs, Static};
 use cv_read::{
-    ReadFault, Source, after_key, front, is_type_start, mark, name, params, placed_mark, sort,
+    ReadFault, Source, after_placed_opaque, front, is_type_start, mark, name, params, placed_key,
+    placed_mark, sort,
 };
-use easl_model::{Key, Kind, Mark, Sort, Token};
+use easl_model::{Key, Kind, Mark, Place, Sort, Token};
 
 /// What a text has beside others at its top.
 #[derive(Debug, Drop)]
@@ -55,9 +56,9 @@ fn some_item<'a>(
     ensures reads { Gives result (item_at source.entry.text.now depth tokens.now) }
     ensures shorter { IfOk result (λ x. length x.1.now < length tokens.now) }
 {
-    match after_key(Key::Static, tokens) {
-        Some(after) => {
-            let (found, rest) = behind_static(source, after)?;
+    match placed_key(Key::Static, tokens) {
+        Some((place, after)) => {
+            let (found, rest) = behind_static(source, place, after)?;
             Ok((Item::Static(found), rest))
         }
         None => procedure_item(source, depth, tokens),
@@ -80,15 +81,22 @@ fn procedure_item<'a>(
 #[tactic(auto, unfolding(crate::specs::Reading::static_behind))]
 fn behind_static<'a>(
     source: Source<'_>,
+    place: Place,
     tokens: &'a [Token],
 ) -> Result<(Static, &'a [Token]), ReadFault>
-    ensures reads { Gives result (static_behind source.entry.text.now tokens.now) }
+    ensures reads { Gives result (static_behind source.entry.text.now place tokens.now) }
     ensures shorter { IfOk result (λ x. length x.1.now < length tokens.now) }
 {
     let (sort, rest) = sort(source, tokens)?;
     let (name, rest) = name(source, rest)?;
     let (value, rest) = initialised(source, rest)?;
-    Ok((Static { sort, name, value }, rest))
+    let found = Static {
+        place,
+        sort,
+        name,
+        value,
+    };
+    Ok((found, rest))
 }
 
 /// `"=" initial ";"`
@@ -103,7 +111,7 @@ fn initialised<'a>(source: Source<'_>, tokens: &'a [Token]) -> Result<(Rhs, &'a 
     Ok((value, rest))
 }
 
-/// `result Name params "{" stmt* return "}"`
+/// `result Name params "{" stmt* "}"`
 #[tactic(auto, unfolding(crate::specs::Reading::proc_at))]
 fn procedure<'a>(
     source: Source<'_>,
@@ -113,34 +121,59 @@ fn procedure<'a>(
     ensures reads { Gives result (proc_at source.entry.text.now depth tokens.now) }
     ensures shorter { IfOk result (λ x. length x.1.now < length tokens.now) }
 {
-    let (result, rest) = result_sort(source, tokens)?;
+    let ((place, result), rest) = placed_result(source, tokens)?;
     let (name, rest) = name(source, rest)?;
     let (params, rest) = params(source, rest)?;
     let rest = mark(Mark::Begin, rest)?;
     let (body, rest) = stmts(source, depth, rest)?;
-    let (last, rest) = returned(source, rest)?;
     let (end, rest) = placed_mark(Mark::End, rest)?;
     let found = Proc {
+        place,
         result,
         name,
         params,
         body,
-        last,
         end,
     };
     Ok((found, rest))
 }
 
-/// `"void" | type`
-fn result_sort<'a>(
+/// `"void" | type`, with its place.
+fn placed_result<'a>(
     source: Source<'_>,
     tokens: &'a [Token],
-) -> Result<(Sort, &'a [Token]), ReadFault>
+) -> Result<((Place, Sort), &'a [Token]), ReadFault>
     ensures reads { Gives result (result_at source.entry.text.now tokens.now) }
     ensures shorter { IfOk result (λ x. length x.1.now < length tokens.now) }
 {
-    match after_key(Key::Void, tokens) {
-        Some(rest) => Ok((Sort::Void, rest)),
-        None => sort(source, tokens),
+    match placed_key(Key::Void, tokens) {
+        Some((place, rest)) => Ok(((place, Sort::Void), rest)),
+        None => some_result(source, tokens),
     }
+}
+
+/// `opaque | Name`, with its place.
+fn some_result<'a>(
+    source: Source<'_>,
+    tokens: &'a [Token],
+) -> Result<((Place, Sort), &'a [Token]), ReadFault>
+    ensures reads { Gives result (some_result_at source.entry.text.now tokens.now) }
+    ensures shorter { IfOk result (λ x. length x.1.now < length tokens.now) }
+{
+    match after_placed_opaque(tokens) {
+        Some(((place, kind), rest)) => Ok(((place, Sort::Opaque(kind)), rest)),
+        None => class_result(source, tokens),
+    }
+}
+
+fn class_result<'a>(
+    source: Source<'_>,
+    tokens: &'a [Token],
+) -> Result<((Place, Sort), &'a [Token]), ReadFault>
+    ensures reads { Gives result (class_result_at source.entry.text.now tokens.now) }
+    ensures shorter { IfOk result (λ x. length x.1.now < length tokens.now) }
+{
+    let (class, rest) = name(source, tokens)?;
+    let place = class.place;
+    Ok(((place, Sort::Class(class)), rest))
 }

@@ -2,6 +2,7 @@
 #![tactic(auto)]
 
 mod items;
+mod limits;
 mod statements;
 mod values;
 mod whole;

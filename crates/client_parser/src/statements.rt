@@ -1,15 +1,15 @@
-//! Statements and what they hold, and the return behind them. `depth` is how many lists of statements may still
-//! stand in one another; texts with too many open brackets are refused before, so it does not run out.
+//! Statements and what they hold. `depth` is how many lists of statements may still stand in one another; texts with
+//! too many open brackets are refused before, so it does not run out.
 ghost use Rattle.std.specs.Prelude.{◌≡◌, ◌<◌, ◌≤◌, length, IfOk, IsSome};
 ghost use Rattle.easl_model.specs.declared.tree.Sort.TheVariants as sort;
 ghost use Rattle.cv_read.specs.Read.{Gives, begins, items_at};
-ghost use Rattle.client_parser.specs.Reading.{set_at, declare_set_at, declare_behind, declare_at, opaque_declare_at, assign_at, done_by, action_behind, new_behind, used_behind, stmt_behind, named_stmt_at, typed_stmt_at, simple_at, test_at, guard_at, call_test_at, end_if_by, if_by, while_by, no_if_by, stmt_starts, stmts_at, block_at, stmt_at, maybe_stmt_at, return_behind, value_return_at, return_at};
+ghost use Rattle.client_parser.specs.Reading.{set_at, declare_set_at, declare_behind, declare_at, opaque_declare_at, assign_at, done_by, action_behind, new_behind, used_behind, stmt_behind, named_stmt_at, typed_stmt_at, simple_at, test_at, guard_at, call_test_at, end_if_by, if_by, while_by, no_if_by, stmt_starts, stmts_at, block_at, stmt_at, maybe_stmt_at, ended_by, no_while_at, no_break_at, no_continue_at, return_stmt_behind, return_behind, value_return_at};
 
 use crate::values::{arg, call_value, component, component_value, new_value, rhs};
 use client_model::{Return, Rhs, Stmt, Test};
 use cv_read::{
-    ReadFault, Source, after_key, after_mark, begins_mark, begins_name, front, is_type_start, mark,
-    name, opaque_sort, placed_key, placed_mark,
+    ReadFault, Source, after_key, after_mark, after_placed_opaque, begins_mark, begins_name, front,
+    is_type_start, mark, name, placed_key, placed_mark,
 };
 use easl_model::{Key, Kind, Mark, Place, Sort, Token, Word};
 use sqlite_items::Items;
@@ -78,6 +78,9 @@ fn begins_stmt(tokens: &[Token]) -> bool
         Some((kind, _)) => {
             kind == Kind::Key(Key::If)
                 || kind == Kind::Key(Key::While)
+                || kind == Kind::Key(Key::Break)
+                || kind == Kind::Key(Key::Continue)
+                || kind == Kind::Key(Key::Return)
                 || kind == Kind::Key(Key::New)
                 || is_type_start(kind)
         }
@@ -94,8 +97,8 @@ fn stmt<'a>(
     ensures reads { Gives result (stmt_at source.entry.text.now depth tokens.now) }
     ensures shorter { IfOk result (λ x. length x.1.now < length tokens.now) }
 {
-    match after_key(Key::If, tokens) {
-        Some(after) => if_stmt(source, depth, after),
+    match placed_key(Key::If, tokens) {
+        Some((place, after)) => if_stmt(source, depth, place, after),
         None => no_if(source, depth, tokens),
     }
 }
@@ -109,9 +112,9 @@ fn no_if<'a>(
     ensures reads { Gives result (no_if_by source.entry.text.now (block_at source.entry.text.now depth) tokens.now) }
     ensures shorter { IfOk result (λ x. length x.1.now < length tokens.now) }
 {
-    match after_key(Key::While, tokens) {
-        Some(after) => while_stmt(source, depth, after),
-        None => simple(source, tokens),
+    match placed_key(Key::While, tokens) {
+        Some((place, after)) => while_stmt(source, depth, place, after),
+        None => no_while(source, tokens),
     }
 }
 
@@ -121,14 +124,15 @@ fn no_if<'a>(
 fn if_stmt<'a>(
     source: Source<'_>,
     depth: u32,
+    place: Place,
     tokens: &'a [Token],
 ) -> Result<(Stmt, &'a [Token]), ReadFault>
-    ensures reads { Gives result (if_by source.entry.text.now (block_at source.entry.text.now depth) tokens.now) }
+    ensures reads { Gives result (if_by source.entry.text.now (block_at source.entry.text.now depth) place tokens.now) }
     ensures shorter { IfOk result (λ x. length x.1.now < length tokens.now) }
 {
     let (test, rest) = guard(source, tokens)?;
     let (first, rest) = block(source, depth, rest)?;
-    end_if(source, depth, test, first, rest)
+    end_if(source, depth, place, test, first, rest)
 }
 
 /// `("else" block)?`
@@ -136,20 +140,21 @@ fn if_stmt<'a>(
 fn end_if<'a>(
     source: Source<'_>,
     depth: u32,
+    place: Place,
     test: Test,
     first: Items<Stmt>,
     tokens: &'a [Token],
 ) -> Result<(Stmt, &'a [Token]), ReadFault>
-    ensures reads { Gives result (end_if_by (block_at source.entry.text.now depth) test first tokens.now) }
+    ensures reads { Gives result (end_if_by (block_at source.entry.text.now depth) place test first tokens.now) }
     ensures shorter { IfOk result (λ x. length x.1.now ≤ length tokens.now) }
 {
     match after_key(Key::Else, tokens) {
         Some(after) => {
             let (second, rest) = block(source, depth, after)?;
-            Ok((Stmt::If(test, first, second, true), rest))
+            Ok((Stmt::If(place, test, first, second, true), rest))
         }
         None => Ok((
-            Stmt::If(test, first, Items::new(source.alloc), false),
+            Stmt::If(place, test, first, Items::new(source.alloc), false),
             tokens,
         )),
     }
@@ -161,14 +166,15 @@ fn end_if<'a>(
 fn while_stmt<'a>(
     source: Source<'_>,
     depth: u32,
+    place: Place,
     tokens: &'a [Token],
 ) -> Result<(Stmt, &'a [Token]), ReadFault>
-    ensures reads { Gives result (while_by source.entry.text.now (block_at source.entry.text.now depth) tokens.now) }
+    ensures reads { Gives result (while_by source.entry.text.now (block_at source.entry.text.now depth) place tokens.now) }
     ensures shorter { IfOk result (λ x. length x.1.now < length tokens.now) }
 {
     let (test, rest) = guard(source, tokens)?;
     let (body, rest) = block(source, depth, rest)?;
-    Ok((Stmt::While(test, body), rest))
+    Ok((Stmt::While(place, test, body), rest))
 }
 
 /// `"{" stmt* "}"`
@@ -221,6 +227,50 @@ fn call_test<'a>(source: Source<'_>, tokens: &'a [Token]) -> Result<(Test, &'a [
 }
 
 /// A statement that holds no others.
+#[tactic(auto, unfolding(crate::specs::Reading::no_while_at))]
+fn no_while<'a>(source: Source<'_>, tokens: &'a [Token]) -> Result<(Stmt, &'a [Token]), ReadFault>
+    ensures reads { Gives result (no_while_at source.entry.text.now tokens.now) }
+    ensures shorter { IfOk result (λ x. length x.1.now < length tokens.now) }
+{
+    match placed_key(Key::Break, tokens) {
+        Some((place, rest)) => ended(Stmt::Break(place), rest),
+        None => no_break(source, tokens),
+    }
+}
+
+fn no_break<'a>(source: Source<'_>, tokens: &'a [Token]) -> Result<(Stmt, &'a [Token]), ReadFault>
+    ensures reads { Gives result (no_break_at source.entry.text.now tokens.now) }
+    ensures shorter { IfOk result (λ x. length x.1.now < length tokens.now) }
+{
+    match placed_key(Key::Continue, tokens) {
+        Some((place, rest)) => ended(Stmt::Continue(place), rest),
+        None => no_continue(source, tokens),
+    }
+}
+
+fn no_continue<'a>(
+    source: Source<'_>,
+    tokens: &'a [Token],
+) -> Result<(Stmt, &'a [Token]), ReadFault>
+    ensures reads { Gives result (no_continue_at source.entry.text.now tokens.now) }
+    ensures shorter { IfOk result (λ x. length x.1.now < length tokens.now) }
+{
+    match placed_key(Key::Return, tokens) {
+        Some((place, rest)) => return_stmt(source, place, rest),
+        None => simple(source, tokens),
+    }
+}
+
+/// A statement whose keyword was read, and its semicolon.
+fn ended<'a>(found: Stmt, tokens: &'a [Token]) -> Result<(Stmt, &'a [Token]), ReadFault>
+    ensures reads { Gives result (ended_by found tokens.now) }
+    ensures shorter { IfOk result (λ x. length x.1.now < length tokens.now) }
+{
+    let rest = mark(Mark::Semicolon, tokens)?;
+    Ok((found, rest))
+}
+
+/// A declaration, an assignment, a call or a construction.
 #[tactic(auto, unfolding(crate::specs::Reading::simple_at))]
 fn simple<'a>(source: Source<'_>, tokens: &'a [Token]) -> Result<(Stmt, &'a [Token]), ReadFault>
     ensures reads { Gives result (simple_at source.entry.text.now tokens.now) }
@@ -265,8 +315,10 @@ fn opaque_declare<'a>(
     ensures reads { Gives result (opaque_declare_at source.entry.text.now tokens.now) }
     ensures shorter { IfOk result (λ x. length x.1.now < length tokens.now) }
 {
-    let (sort, rest) = opaque_sort(tokens)?;
-    declare(source, sort, rest)
+    match after_placed_opaque(tokens) {
+        Some(((place, kind), rest)) => declare(source, place, Sort::Opaque(kind), rest),
+        None => Err(ReadFault::Syntax(tokens.len())),
+    }
 }
 
 fn named_stmt<'a>(source: Source<'_>, tokens: &'a [Token]) -> Result<(Stmt, &'a [Token]), ReadFault>
@@ -287,7 +339,8 @@ fn behind_name<'a>(
     ensures shorter { IfOk result (λ x. length x.1.now < length tokens.now) }
 {
     if begins_name(tokens) {
-        declare(source, Sort::Class(first), tokens)
+        let place = first.place;
+        declare(source, place, Sort::Class(first), tokens)
     } else {
         used(source, first, tokens)
     }
@@ -349,46 +402,49 @@ fn action_behind<'a>(
     }
 }
 
-/// A declaration behind its type.
+/// A declaration behind its type, which begins at the place.
 fn declare<'a>(
     source: Source<'_>,
+    place: Place,
     sort: Sort,
     tokens: &'a [Token],
 ) -> Result<(Stmt, &'a [Token]), ReadFault>
-    ensures reads { Gives result (declare_at source.entry.text.now sort tokens.now) }
+    ensures reads { Gives result (declare_at source.entry.text.now place sort tokens.now) }
     ensures shorter { IfOk result (λ x. length x.1.now < length tokens.now) }
 {
     let (name, rest) = name(source, tokens)?;
-    behind_declared(source, sort, name, rest)
+    behind_declared(source, place, sort, name, rest)
 }
 
 /// A declaration behind its type and name.
 fn behind_declared<'a>(
     source: Source<'_>,
+    place: Place,
     sort: Sort,
     name: Word,
     tokens: &'a [Token],
 ) -> Result<(Stmt, &'a [Token]), ReadFault>
-    ensures reads { Gives result (declare_behind source.entry.text.now sort name tokens.now) }
+    ensures reads { Gives result (declare_behind source.entry.text.now place sort name tokens.now) }
     ensures shorter { IfOk result (λ x. length x.1.now < length tokens.now) }
 {
     match after_mark(Mark::Semicolon, tokens) {
-        Some(rest) => Ok((Stmt::Declare(sort, name, None), rest)),
-        None => declare_set(source, sort, name, tokens),
+        Some(rest) => Ok((Stmt::Declare(place, sort, name, None), rest)),
+        None => declare_set(source, place, sort, name, tokens),
     }
 }
 
 fn declare_set<'a>(
     source: Source<'_>,
+    place: Place,
     sort: Sort,
     name: Word,
     tokens: &'a [Token],
 ) -> Result<(Stmt, &'a [Token]), ReadFault>
-    ensures reads { Gives result (declare_set_at source.entry.text.now sort name tokens.now) }
+    ensures reads { Gives result (declare_set_at source.entry.text.now place sort name tokens.now) }
     ensures shorter { IfOk result (λ x. length x.1.now < length tokens.now) }
 {
     let (value, rest) = assigned(source, tokens)?;
-    Ok((Stmt::Declare(sort, name, Some(value)), rest))
+    Ok((Stmt::Declare(place, sort, name, Some(value)), rest))
 }
 
 /// `"=" rhs ";"`
@@ -403,19 +459,17 @@ fn assigned<'a>(source: Source<'_>, tokens: &'a [Token]) -> Result<(Rhs, &'a [To
     Ok((value, rest))
 }
 
-/// `("return" arg? ";")?`
-#[tactic(auto, unfolding(crate::specs::Reading::return_at))]
-pub(crate) fn returned<'a>(
+/// A `return` behind its keyword.
+fn return_stmt<'a>(
     source: Source<'_>,
+    place: Place,
     tokens: &'a [Token],
-) -> Result<(Option<Return>, &'a [Token]), ReadFault>
-    ensures reads { Gives result (return_at source.entry.text.now tokens.now) }
-    ensures shorter { IfOk result (λ x. length x.1.now ≤ length tokens.now) }
+) -> Result<(Stmt, &'a [Token]), ReadFault>
+    ensures reads { Gives result (return_stmt_behind source.entry.text.now place tokens.now) }
+    ensures shorter { IfOk result (λ x. length x.1.now < length tokens.now) }
 {
-    match placed_key(Key::Return, tokens) {
-        Some((place, after)) => behind_return(source, place, after),
-        None => Ok((None, tokens)),
-    }
+    let (found, rest) = behind_return(source, place, tokens)?;
+    Ok((Stmt::Return(found), rest))
 }
 
 /// `arg? ";"`
@@ -423,12 +477,12 @@ fn behind_return<'a>(
     source: Source<'_>,
     place: Place,
     tokens: &'a [Token],
-) -> Result<(Option<Return>, &'a [Token]), ReadFault>
+) -> Result<(Return, &'a [Token]), ReadFault>
     ensures reads { Gives result (return_behind source.entry.text.now place tokens.now) }
     ensures shorter { IfOk result (λ x. length x.1.now < length tokens.now) }
 {
     match after_mark(Mark::Semicolon, tokens) {
-        Some(rest) => Ok((Some(Return { place, value: None }), rest)),
+        Some(rest) => Ok((Return { place, value: None }, rest)),
         None => value_returned(source, place, tokens),
     }
 }
@@ -438,15 +492,15 @@ fn value_returned<'a>(
     source: Source<'_>,
     place: Place,
     tokens: &'a [Token],
-) -> Result<(Option<Return>, &'a [Token]), ReadFault>
+) -> Result<(Return, &'a [Token]), ReadFault>
     ensures reads { Gives result (value_return_at source.entry.text.now place tokens.now) }
     ensures shorter { IfOk result (λ x. length x.1.now < length tokens.now) }
 {
     let (value, rest) = arg(source, tokens)?;
     let rest = mark(Mark::Semicolon, rest)?;
-    let last = Return {
+    let found = Return {
         place,
         value: Some(value),
     };
-    Ok((Some(last), rest))
+    Ok((found, rest))
 }

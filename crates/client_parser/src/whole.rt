@@ -1,12 +1,14 @@
-//! A whole client: its tokens, its brackets, its syntax.
+//! A whole client: its tokens, its brackets, its syntax, its limit.
 ghost use Rattle.std.specs.Prelude.{◌≡◌, ◌<◌, ◌≤◌, length, IfOk, OnOk};
 ghost use Rattle.client_model.specs.Grammar.{IsClient};
 ghost use Rattle.client_model.specs.Spelling.{OneClient};
-ghost use Rattle.cv_read.specs.Answers.{Answers, OneAnswer, FindsTree};
+ghost use Rattle.cv_read.specs.Answers.{Answers, FindsTree};
 ghost use Rattle.cv_read.specs.Read.{Gives, GivesWhole, whole_at};
+ghost use Rattle.client_parser.specs.Answers.{ClientAnswers, OneAnswer};
 ghost use Rattle.client_parser.specs.Reading.{with_item, client_at};
 
 use crate::items::{Item, maybe_item};
+use crate::limits::first_excess;
 use client_model::Client;
 use cv_lex::{TextFault, tokens};
 use cv_read::{ReadFault, Source, nesting};
@@ -22,9 +24,26 @@ const MOST_BODIES: u32 = 64;
 /// Reads the client that the whole text spells. The faults come in this order: `NotUtf8` where the longest front of the
 /// bytes that is UTF-8 ends, if they are none, `BadToken` where neither a gap nor a token begins, `Limit` of nesting at
 /// the bracket that makes a 65th open one, `Syntax` where the tokens before the place begin a client and with the next
-/// one begin none, or at the end of the text. `Memory` comes where none is found.
-#[tactic(auto, using(crate::proofs::Theorems::no_tokens, crate::proofs::Theorems::tree_answers, crate::proofs::Theorems::fault_answers))]
+/// one begin none, or at the end of the text, and `Limit` of parameters at the first parameter that is a 17th of its
+/// procedure. `Memory` comes where none is found.
+#[tactic(auto, using(crate::proofs::Limited::within_answers, crate::proofs::Limited::beyond_answers, crate::proofs::Limited::fault_stays))]
 pub fn read_client(alloc: Global, text: &[u8]) -> Result<Client, TextFault>
+    requires { length text.now ≤ 1048576 }
+    ensures { ClientAnswers text.now result }
+{
+    let client = match spelled(alloc, text) {
+        Ok(client) => client,
+        Err(fault) => return Err(fault),
+    };
+    match first_excess(&client) {
+        Some(excess) => Err(TextFault::Limit(excess.which, excess.place)),
+        None => Ok(client),
+    }
+}
+
+/// The client that the whole text spells, whether it keeps the limit or not.
+#[tactic(auto, using(crate::proofs::Theorems::no_tokens, crate::proofs::Theorems::tree_answers, crate::proofs::Theorems::fault_answers))]
+fn spelled(alloc: Global, text: &[u8]) -> Result<Client, TextFault>
     requires { length text.now ≤ 1048576 }
     ensures { Answers IsClient text.now result }
 {
@@ -44,9 +63,9 @@ pub fn one_client()
 {}
 
 /// Reading a text has one answer, want of memory aside.
-#[tactic(auto, using(crate::proofs::Theorems::one_answer))]
+#[tactic(auto, using(crate::proofs::Limited::one_answer))]
 pub fn one_answer()
-    ensures { OneAnswer IsClient }
+    ensures { OneAnswer }
 {}
 
 /// The client that all of these tokens spell.
