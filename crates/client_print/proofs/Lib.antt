@@ -1,0 +1,9 @@
+pub mod Blocks
+pub mod ItemPrints
+pub mod Limits
+pub mod NestingRules
+pub mod SameText
+pub mod StatementPrints
+pub mod TypePrints
+pub mod ValuePrints
+pub mod Whole
