@@ -9,7 +9,7 @@ use Rattle.client_model.specs.declared.form.CallSite.{CallSite}
 use Rattle.client_model.specs.declared.form.Point.{Point}
 use Rattle.client_model.specs.declared.form.Point.TheVariants as point
 use Rattle.client_run.specs.Answers.{HasCall, outcome_told}
-use Rattle.client_run.specs.Run.{Broke, Cut, Deed, Did, Does, Ends, Fails, IsRun, Moment, Outcome, Passes, Result, Runs, RunsAll, Short, State, Stops, answered, called, charged, cut, done, done_at, goes_on, if_false, if_short, if_stops, if_true, made, no_more, object_of, outcome_of, step, stops, while_again, while_ends, while_left, while_short, while_stops}
+use Rattle.client_run.specs.Run.{Broke, Cut, Deed, Did, Does, Ends, Fails, IsRun, Moment, Outcome, Passes, Result, Runs, RunsAll, Short, State, Stops, answered, breaks, called, charged, continues, cut, done, done_at, goes_on, if_false, if_short, if_stops, if_true, made, no_more, object_of, outcome_of, returns, step, stops, while_again, while_ends, while_left, while_short, while_stops}
 use Rattle.client_run.specs.declared.runner.Outcome as made
 use Rattle.client_run.specs.declared.runner.Outcome.TheVariants as ending
 use Rattle.easl_heap.specs.Clause.{requires_of}
@@ -74,6 +74,9 @@ mutual
   run_within : (form : Form) (program : Program) (x : Tree) (m : Moment) (r : Result) → Runs form program x m r → StopsWithin program r
   run_within form program x m r (cut t n out) = tt
   run_within form program x m r (step number left n s does) = does_within form program number n left s does
+  run_within form program x m r (breaks number left n s does) = does_within form program number n left s does
+  run_within form program x m r (continues number left n s does) = does_within form program number n left s does
+  run_within form program x m r (returns number left n s does) = does_within form program number n left s does
   run_within form program x m r (if_stops number left first second n o does) = does_within form program number n left (Stops o) does
   run_within form program x m r (if_short number left first second n k does none) = tt
   run_within form program x m r (if_true number left first second n k l s does takes all) = all_within form program first l s all

@@ -5,7 +5,7 @@ use Rattle.std.proofs.lemmas.Bool.{le-leb, leb-true}
 use Rattle.client_model.specs.Nodes.{Tree, Trees, While, tree_of, trees}
 use Rattle.client_model.specs.Program.{Program}
 use Rattle.client_run.specs.Laws.{MoreKeeps}
-use Rattle.client_run.specs.Run.{Cut, Deed, Broke, Did, Does, IsRun, Moment, Outcome, Passes, Result, Runs, RunsAll, State, Stops, Takes, charged, cut, done_at, goes_on, if_false, if_short, if_stops, if_true, no_more, outcome_of, start, step, stops, while_again, while_ends, while_left, while_short, while_stops}
+use Rattle.client_run.specs.Run.{Broke, Cut, Deed, Did, Does, IsRun, Moment, Outcome, Passes, Result, Runs, RunsAll, State, Stops, Takes, breaks, charged, continues, cut, done_at, goes_on, if_false, if_short, if_stops, if_true, no_more, outcome_of, returns, start, step, stops, while_again, while_ends, while_left, while_short, while_stops}
 use Rattle.easl_model.specs.Form.{Form}
 
 -- where the run goes on, no more units are left
@@ -58,6 +58,9 @@ module _ (form : Form) (program : Program) (k : ℕ) where
     runs_more : (x : Tree) (m : Moment) (r : Result) → Runs form program x m r → r ≢ Stops Cut → Runs form program x (more k m) (more_left k r)
     runs_more x m r (cut y n none) uncut = absurd (uncut refl)
     runs_more x m r (step number left n s does) uncut = step number (left + k) (more k m) (more_left k r) (does_more number left m r does uncut)
+    runs_more x m r (breaks number left n s does) uncut = breaks number (left + k) (more k m) (more_left k r) (does_more number left m r does uncut)
+    runs_more x m r (continues number left n s does) uncut = continues number (left + k) (more k m) (more_left k r) (does_more number left m r does uncut)
+    runs_more x m r (returns number left n s does) uncut = returns number (left + k) (more k m) (more_left k r) (does_more number left m r does uncut)
     runs_more x m r (if_stops number left first second n o does) uncut =
         if_stops number (left + k) first second (more k m) o (does_more number left m (Stops o) does uncut)
     runs_more x m r (if_short number left first second l n does none) uncut =

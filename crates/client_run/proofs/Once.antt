@@ -1,11 +1,11 @@
 -- There is a run, and only one: by induction on the units, and on the statements.
 use Rattle.std.proofs.Common.{◌≡◌, ℕ, zero, suc, ◌<◌, ◌≤◌, Bool, true, false, List, [], ◌∷◌, map, refl, sym, ap, subst, ◌∙◌, arith}
-use Rattle.client_model.specs.Nodes.{Tree, Trees, Step, If, While, end, tree_of, trees, ◌▹◌}
+use Rattle.client_model.specs.Nodes.{Tree, Trees, Step, If, While, Break, Continue, Return, end, tree_of, trees, ◌▹◌}
 use Rattle.client_model.specs.Program.{Program}
 use Rattle.client_run.proofs.Budgets.{Within, charged_within}
 use Rattle.client_run.specs.Laws.{RunsOnce}
 use Rattle.client_run.specs.Machine.{comes_at, point_of}
-use Rattle.client_run.specs.Run.{Cut, Does, Moment, Passes, Result, Runs, RunsAll, Short, Stops, Takes, charged, cut, done_at, goes_on, if_false, if_short, if_stops, if_true, no_more, outcome_of, start, step, stops, while_again, while_ends, while_left, while_short, while_stops}
+use Rattle.client_run.specs.Run.{Cut, Does, Moment, Passes, Result, Runs, RunsAll, Short, Stops, Takes, breaks, charged, continues, cut, done_at, goes_on, if_false, if_short, if_stops, if_true, no_more, outcome_of, returns, start, step, stops, while_again, while_ends, while_left, while_short, while_stops}
 use Rattle.easl_model.specs.Form.{Form}
 
 -- one result is so, which leaves no more units than these
@@ -52,6 +52,9 @@ module _ (form : Form) (program : Program) where
   -- what a statement comes to behind its point
   abbrev Done : Tree → Moment → Result → Type 0
   Done (Step number) n r = r ≡ Passes n
+  Done (Break number) n r = r ≡ Passes n
+  Done (Continue number) n r = r ≡ Passes n
+  Done (Return number) n r = r ≡ Passes n
   Done (If number first second) n r = Branch first second n.choices n r
   Done (While number inner) n r = Loop number inner n.choices n r
 
@@ -72,14 +75,17 @@ module _ (form : Form) (program : Program) where
   all_taken : (xs : Trees) (choice : Bool) (n p : Moment) (r : Result) → (takes : Takes n choice p) → RunsAll form program xs p r → RunsAll form program xs (record n { choices = takes.0 }) r
   all_taken xs choice n p r takes = subst (λ q. RunsAll form program xs q r) takes.2
 
+  passed : (s : Result) → Behind (λ n r. r ≡ Passes n) s s
+  passed (Passes p) = refl
+  passed (Stops o) = refl
+
   -- by the rules, to what the point comes to
   opened : (x : Tree) (m : Moment) (r : Result) → Runs form program x m r → Begun x m.budget m r
   opened x m r (cut y n none) = subst (λ b. Begun x b m (Stops Cut)) (sym none) refl
   opened x m r (step number left n s does) = does_begin (Step number) m left r r does (passed r)
-    where
-      passed : (s : Result) → Behind (Done (Step number)) s s
-      passed (Passes p) = refl
-      passed (Stops o) = refl
+  opened x m r (breaks number left n s does) = does_begin (Break number) m left r r does (passed r)
+  opened x m r (continues number left n s does) = does_begin (Continue number) m left r r does (passed r)
+  opened x m r (returns number left n s does) = does_begin (Return number) m left r r does (passed r)
   opened x m r (if_stops number left first second n o does) = does_begin (If number first second) m left (Stops o) r does refl
   opened x m r (if_short number left first second l n does none) =
       does_begin (If number first second) m left (Passes n) r does (subst (λ cs. Branch first second cs n (Stops Short)) (sym none) refl)
@@ -122,6 +128,12 @@ module _ (form : Form) (program : Program) where
   behind_run : (x : Tree) (m : Moment) (left : ℕ) (d r : Result) → Does form program (point_of x) m left d → Behind (Done x) d r → Runs form program x m r
   behind_run (Step number) m left (Passes n) r does comes = subst (Runs form program (Step number) m) (sym comes) (step number left m (Passes n) does)
   behind_run (Step number) m left (Stops o) r does comes = subst (Runs form program (Step number) m) (sym comes) (step number left m (Stops o) does)
+  behind_run (Break number) m left (Passes n) r does comes = subst (Runs form program (Break number) m) (sym comes) (breaks number left m (Passes n) does)
+  behind_run (Break number) m left (Stops o) r does comes = subst (Runs form program (Break number) m) (sym comes) (breaks number left m (Stops o) does)
+  behind_run (Continue number) m left (Passes n) r does comes = subst (Runs form program (Continue number) m) (sym comes) (continues number left m (Passes n) does)
+  behind_run (Continue number) m left (Stops o) r does comes = subst (Runs form program (Continue number) m) (sym comes) (continues number left m (Stops o) does)
+  behind_run (Return number) m left (Passes n) r does comes = subst (Runs form program (Return number) m) (sym comes) (returns number left m (Passes n) does)
+  behind_run (Return number) m left (Stops o) r does comes = subst (Runs form program (Return number) m) (sym comes) (returns number left m (Stops o) does)
   behind_run (If number first second) m left (Passes n) r does comes = branched number left first second m n n.choices r does refl comes
   behind_run (If number first second) m left (Stops o) r does comes =
       subst (Runs form program (If number first second) m) (sym comes) (if_stops number left first second m o does)
@@ -220,6 +232,9 @@ module _ (form : Form) (program : Program) where
   mutual
     sole_tree : (budget : ℕ) → Below budget → (x : Tree) → (m : Moment) → m.budget < suc budget → SoleOf x m
     sole_tree budget below (Step number) m less = sole_run (Step number) m budget less (λ n few. exactly (Passes n) n.budget (omega arith))
+    sole_tree budget below (Break number) m less = sole_run (Break number) m budget less (λ n few. exactly (Passes n) n.budget (omega arith))
+    sole_tree budget below (Continue number) m less = sole_run (Continue number) m budget less (λ n few. exactly (Passes n) n.budget (omega arith))
+    sole_tree budget below (Return number) m less = sole_run (Return number) m budget less (λ n few. exactly (Passes n) n.budget (omega arith))
     sole_tree budget below (If number first second) m less =
         sole_run (If number first second) m budget less (λ n few. sole_branch first second n.choices n budget few (λ p fewer. sole_trees budget below first p (omega arith)) (λ p fewer. sole_trees budget below second p (omega arith)))
     sole_tree budget below (While number inner) m less =

@@ -6,7 +6,7 @@ use Rattle.client_model.specs.Nodes.{Tree, Trees, tree_of, trees}
 use Rattle.client_model.specs.declared.form.Point.{Point}
 use Rattle.client_model.specs.declared.form.Point.TheVariants as point
 use Rattle.client_model.specs.Program.{Program}
-use Rattle.client_run.specs.Run.{Deed, Did, Does, IsRun, IsSafe, Moment, Outcome, Result, Runs, RunsAll, State, called, charged, cut, done, done_at, goes_on, if_false, if_short, if_stops, if_true, made, no_more, start, step, stops, while_again, while_ends, while_left, while_short, while_stops}
+use Rattle.client_run.specs.Run.{Deed, Did, Does, IsRun, IsSafe, Moment, Outcome, Result, Runs, RunsAll, State, breaks, called, charged, continues, cut, done, done_at, goes_on, if_false, if_short, if_stops, if_true, made, no_more, returns, start, step, stops, while_again, while_ends, while_left, while_short, while_stops}
 use Rattle.client_run.specs.Run as runs
 use Rattle.easl_model.specs.Form.{Form}
 
@@ -46,6 +46,9 @@ mutual
   runs_alike : (form : Form) (p q : Program) (x : Tree) (m : Moment) (r : Result) → AreAlike p q → Runs form p x m r → Runs form q x m r
   runs_alike form p q x m r a (cut t n out) = cut t n out
   runs_alike form p q x m r a (step number left n s does) = step number left n s (does_alike form p q number n left s a does)
+  runs_alike form p q x m r a (breaks number left n s does) = breaks number left n s (does_alike form p q number n left s a does)
+  runs_alike form p q x m r a (continues number left n s does) = continues number left n s (does_alike form p q number n left s a does)
+  runs_alike form p q x m r a (returns number left n s does) = returns number left n s (does_alike form p q number n left s a does)
   runs_alike form p q x m r a (if_stops number left first second n o does) = if_stops number left first second n o (does_alike form p q number n left (runs.Stops o) a does)
   runs_alike form p q x m r a (if_short number left first second n k does none) = if_short number left first second n k (does_alike form p q number n left (runs.Passes k) a does) none
   runs_alike form p q x m r a (if_true number left first second n k l s does takes all) = if_true number left first second n k l s (does_alike form p q number n left (runs.Passes k) a does) takes (all_alike form p q first l s a all)

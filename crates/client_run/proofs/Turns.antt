@@ -1,10 +1,10 @@
 -- Turns, backward: what the rest of a run comes to, the run comes to from the turn before.
 use Rattle.std.proofs.Common.{◌≡◌, ℕ, zero, suc, ◌+◌, ◌*◌, ◌<◌, Bool, true, false, List, [], ◌∷◌, length, map, refl, subst, arith}
-use Rattle.client_model.specs.Nodes.{Tree, Trees, Step, If, While, end, tree_of, trees, ◌▹◌}
+use Rattle.client_model.specs.Nodes.{Tree, Trees, Step, If, While, Break, Continue, Return, end, tree_of, trees, ◌▹◌}
 use Rattle.client_model.specs.Program.{Program}
 use Rattle.client_run.proofs.Budgets.{Within, charged_within}
 use Rattle.client_run.specs.Machine.{Place, On, Over, Turn, after, chosen, comes_at, goes, moment, place, point_of, turn_from, turn_of}
-use Rattle.client_run.specs.Run.{Cut, Does, Ends, IsRun, Moment, Outcome, Passes, Result, Runs, RunsAll, Short, Stops, Takes, at_first, charged, cut, done_at, goes_on, if_false, if_short, if_stops, if_true, no_more, outcome_of, step, stops, while_again, while_ends, while_left, while_short, while_stops}
+use Rattle.client_run.specs.Run.{Cut, Does, Ends, IsRun, Moment, Outcome, Passes, Result, Runs, RunsAll, Short, Stops, Takes, at_first, breaks, charged, continues, cut, done_at, goes_on, if_false, if_short, if_stops, if_true, no_more, outcome_of, returns, step, stops, while_again, while_ends, while_left, while_short, while_stops}
 use Rattle.easl_model.specs.Form.{Form}
 
 -- the rows that follow come to this outcome
@@ -59,6 +59,15 @@ module _ (form : Form) (program : Program) where
 
   point_done : (x : Tree) (xs : Trees) (behind : List Trees) (m : Moment) (budget : ℕ) (r : Result) → Does form program (point_of x) m budget r → Leads form program (place (x ▹ xs) behind m) (after (goes x xs behind) r)
   point_done (Step number) xs behind m budget (Stops e) does = row_after (Step number) xs behind m e (Stops e) (step number budget m (Stops e) does) refl
+  point_done (Break number) xs behind m budget (Stops e) does = row_after (Break number) xs behind m e (Stops e) (breaks number budget m (Stops e) does) refl
+  point_done (Break number) xs behind m budget (Passes n) does =
+      λ o rest. row_after (Break number) xs behind m o (Passes n) (breaks number budget m (Passes n) does) rest
+  point_done (Continue number) xs behind m budget (Stops e) does = row_after (Continue number) xs behind m e (Stops e) (continues number budget m (Stops e) does) refl
+  point_done (Continue number) xs behind m budget (Passes n) does =
+      λ o rest. row_after (Continue number) xs behind m o (Passes n) (continues number budget m (Passes n) does) rest
+  point_done (Return number) xs behind m budget (Stops e) does = row_after (Return number) xs behind m e (Stops e) (returns number budget m (Stops e) does) refl
+  point_done (Return number) xs behind m budget (Passes n) does =
+      λ o rest. row_after (Return number) xs behind m o (Passes n) (returns number budget m (Passes n) does) rest
   point_done (If number first second) xs behind m budget (Stops e) does =
       row_after (If number first second) xs behind m e (Stops e) (if_stops number budget first second m e does) refl
   point_done (While number inner) xs behind m budget (Stops e) does =
@@ -99,6 +108,9 @@ chosen_lowers (false ∷ cs) here behind other also m most first second = second
 goes_lowers : (x : Tree) (xs : Trees) (behind : List Trees) (budget : ℕ) (r : Result) → Within budget r → Lowers (2 * suc budget + length behind) (after (goes x xs behind) r)
 goes_lowers x xs behind budget (Stops o) within = tt
 goes_lowers (Step number) xs behind budget (Passes n) within = omega arith
+goes_lowers (Break number) xs behind budget (Passes n) within = omega arith
+goes_lowers (Continue number) xs behind budget (Passes n) within = omega arith
+goes_lowers (Return number) xs behind budget (Passes n) within = omega arith
 goes_lowers (If number first second) xs behind budget (Passes n) within =
     chosen_lowers n.choices first (xs ∷ behind) second (xs ∷ behind) n (2 * suc budget + length behind) (omega arith) (omega arith)
 goes_lowers (While number inner) xs behind budget (Passes n) within =

@@ -1,7 +1,7 @@
 -- A run turn by turn: what is left of it is a row of statements, and the rows that follow.
 use Rattle.std.specs.Prelude.{◌≡◌, ℕ, zero, suc, Bool, true, false, List, [], ◌∷◌, Option, Some, None, Ok, Err, length, map, reverse}
 use Rattle.std.specs.Prelude as prelude
-use Rattle.client_model.specs.Nodes.{Tree, Trees, Step, If, While, end, tree_of, trees, ◌▹◌}
+use Rattle.client_model.specs.Nodes.{Tree, Trees, Step, If, While, Break, Continue, Return, end, tree_of, trees, ◌▹◌}
 use Rattle.client_model.specs.declared.form.Node.{Node}
 use Rattle.client_model.specs.Program.{Program}
 use Rattle.client_run.specs.Answers.{outcome_told}
@@ -35,6 +35,9 @@ abbrev pub point_of : Tree → ℕ
 point_of (Step number) = number
 point_of (If number first second) = number
 point_of (While number inner) = number
+point_of (Break number) = number
+point_of (Continue number) = number
+point_of (Return number) = number
 
 -- what a point comes to where its statement is begun with so many units
 abbrev pub comes_at : Form → Program → ℕ → ℕ → Moment → Result
@@ -60,6 +63,9 @@ abbrev pub goes : Tree → Trees → List Trees → Moment → Turn
 goes (Step number) rest behind m = On (place rest behind m)
 goes (If number first second) rest behind m = branched first second rest behind m
 goes (While number inner) rest behind m = looped (While number inner ▹ rest) inner rest behind m
+goes (Break number) rest behind m = On (place rest behind m)
+goes (Continue number) rest behind m = On (place rest behind m)
+goes (Return number) rest behind m = On (place rest behind m)
 
 abbrev pub after : (Moment → Turn) → Result → Turn
 after rest (Passes m) = rest m

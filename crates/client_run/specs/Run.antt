@@ -1,7 +1,7 @@
 -- Runs of a program of one procedure on the Easl heap, by rules over its statement trees.
 use Rattle.std.specs.Prelude.{◌≡◌, ℕ, suc, ◌-◌, ◌/◌, Bool, true, false, List, [], ◌∷◌, Option, Some, None, if◌then◌else◌, length, map, nat_le, replicate, slice_get, slice_index, slice_set}
 use Rattle.std.specs.Option.{option_map_or}
-use Rattle.client_model.specs.Nodes.{Tree, Trees, Step, If, While, end, tree_of, trees, ◌▹◌}
+use Rattle.client_model.specs.Nodes.{Tree, Trees, Step, If, While, Break, Continue, Return, end, tree_of, trees, ◌▹◌}
 use Rattle.client_model.specs.Program.{Program}
 use Rattle.client_model.specs.declared.form.CallSite.{CallSite}
 use Rattle.client_model.specs.declared.form.Point.{Point}
@@ -94,10 +94,13 @@ abbrev pub Takes : Moment → Bool → Moment → Type 0
 Takes m choice n = (rest : List Bool) × (m.choices ≡ choice ∷ rest) × (n ≡ record m { choices = rest })
 
 mutual
-  -- a statement is begun at this moment
+  -- a statement is begun at this moment. A checked `main` holds no `break`, `continue` and `return`: they pass as a step does
   pub data Runs (form : Form) (program : Program) : Tree → Moment → Result → Type 0 where
     cut : (x : Tree) (m : Moment) → m.budget ≡ 0 → Runs form program x m (Stops Cut)
     step : (number left : ℕ) (m : Moment) (r : Result) → Does form program number m left r → Runs form program (Step number) m r
+    breaks : (number left : ℕ) (m : Moment) (r : Result) → Does form program number m left r → Runs form program (Break number) m r
+    continues : (number left : ℕ) (m : Moment) (r : Result) → Does form program number m left r → Runs form program (Continue number) m r
+    returns : (number left : ℕ) (m : Moment) (r : Result) → Does form program number m left r → Runs form program (Return number) m r
     if_stops : (number left : ℕ) (first second : Trees) (m : Moment) (o : Outcome) → Does form program number m left (Stops o) → Runs form program (If number first second) m (Stops o)
     if_short : (number left : ℕ) (first second : Trees) (m n : Moment) → Does form program number m left (Passes n) → n.choices ≡ [] → Runs form program (If number first second) m (Stops Short)
     if_true : (number left : ℕ) (first second : Trees) (m n p : Moment) (r : Result) → Does form program number m left (Passes n) → Takes n true p → RunsAll form program first p r → Runs form program (If number first second) m r

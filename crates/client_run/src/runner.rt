@@ -104,6 +104,7 @@ fn number_of(node: &Node) -> u32
         Node::Step(number) => *number,
         Node::If(number, _, _) => *number,
         Node::While(number, _) => *number,
+        Node::Break(number) | Node::Continue(number) | Node::Return(number) => *number,
     }
 }
 
@@ -174,7 +175,7 @@ impl<'a> Runner<'a> {
             self.new result }
     {
         match node {
-            Node::Step(_) => {
+            Node::Step(_) | Node::Break(_) | Node::Continue(_) | Node::Return(_) => {
                 self.here = rest;
                 Ok(None)
             }

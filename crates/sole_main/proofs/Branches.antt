@@ -15,6 +15,7 @@ use Rattle.client_model.specs.Statements.{Statements}
 use Rattle.client_model.specs.declared.form.Node.{Node}
 use Rattle.client_model.specs.declared.tree.Test.{Test}
 use Rattle.easl_model.specs.Form.{Form}
+use Rattle.easl_model.specs.declared.place.Place.{Place}
 use Rattle.sole_main.proofs.Adding.{adds_more, adds_same, broken_first, broken_second, points_more}
 use Rattle.sole_main.specs.Holding.{is_assigned, is_marked, kept}
 use Rattle.sole_main.specs.Walking.{Follows, Refuses, RefusesAll, RefusesHead, Takes, TakesBlock, TakesHead, at, out_of_scope}
@@ -35,9 +36,9 @@ marked_again c before old new (table, variables_same, points_same, calls_same) f
   calls = calls ∙ follows.calls ∙ ap (λ v. length v.items) (sym calls_same);
 }
 
-pub loop_taken : (form : Form) (t : Test) (inner : Statements) (old head inside new : Walk) (node : Node) (nodes : List Node) → TakesHead form t old head → TakesBlock form inner head inside nodes → DiffersInMarks inside new → new.names.assigned.items ≡ head.names.assigned.items → tree_of node ≡ While (length old.points) (trees (map tree_of nodes)) → Takes form (written.While t inner) old new node
-loop_taken form t inner old head inside new node nodes takes_head takes_block same marks node_is c follows =
-    let x = written.While t inner in
+pub loop_taken : (form : Form) (t : Test) (inner : Statements) (old head inside new : Walk) (node : Node) (nodes : List Node) → TakesHead form t old head → TakesBlock form inner head inside nodes → DiffersInMarks inside new → new.names.assigned.items ≡ head.names.assigned.items → tree_of node ≡ While (length old.points) (trees (map tree_of nodes)) → (place : Place) → Takes form (written.While place t inner) old new node
+loop_taken form t inner old head inside new node nodes takes_head takes_block same marks node_is place c follows =
+    let x = written.While place t inner in
     let start = tested t c in
     let behind = after_all form start inner in
     let first = takes_head c x follows refl in
@@ -50,14 +51,14 @@ loop_taken form t inner old head inside new node nodes takes_head takes_block sa
       plain = block.plain;
     }
 
-pub loop_head_refused : (form : Form) (t : Test) (inner : Statements) (old : Walk) → RefusesHead form t old → Refuses form (written.While t inner) old
-loop_head_refused form t inner old refuses c follows plain =
-    let x = written.While t inner in
+pub loop_head_refused : (form : Form) (t : Test) (inner : Statements) (old : Walk) → RefusesHead form t old → (place : Place) → Refuses form (written.While place t inner) old
+loop_head_refused form t inner old refuses place c follows plain =
+    let x = written.While place t inner in
     broken_first form (at c x ∷ []) (situated form (tested t c) inner) (at c x, (0, omega arith, refl), refuses c x follows refl)
 
-pub loop_block_refused : (form : Form) (t : Test) (inner : Statements) (old head : Walk) → TakesHead form t old head → RefusesAll form inner head → Refuses form (written.While t inner) old
-loop_block_refused form t inner old head takes_head refuses c follows plain =
-    let x = written.While t inner in
+pub loop_block_refused : (form : Form) (t : Test) (inner : Statements) (old head : Walk) → TakesHead form t old head → RefusesAll form inner head → (place : Place) → Refuses form (written.While place t inner) old
+loop_block_refused form t inner old head takes_head refuses place c follows plain =
+    let x = written.While place t inner in
     let first = takes_head c x follows refl in
     broken_second form (at c x ∷ []) (situated form (tested t c) inner) (refuses (tested t c) first.follows plain)
 
@@ -80,9 +81,9 @@ pub record BothTaken (form : Form) (first second : Statements) (head inside betw
   pub same_second : DiffersInMarks inside_second new
   pub marks_second : (n : ℕ) → is_marked new.names.assigned.items n ≡ (is_marked inside.names.assigned.items n && is_marked inside_second.names.assigned.items n)
 
-pub if_taken : (form : Form) (t : Test) (first second : Statements) (old head inside between inside_second new : Walk) (node : Node) (nodes others : List Node) → TakesHead form t old head → BothTaken form first second head inside between inside_second new nodes others → tree_of node ≡ If (length old.points) (trees (map tree_of nodes)) (trees (map tree_of others)) → (else : Bool) → Takes form (written.If t first second else) old new node
-if_taken form t first second old head inside between inside_second new node nodes others takes_head blocks node_is else c follows =
-    let x = written.If t first second else in
+pub if_taken : (form : Form) (t : Test) (first second : Statements) (old head inside between inside_second new : Walk) (node : Node) (nodes others : List Node) → TakesHead form t old head → BothTaken form first second head inside between inside_second new nodes others → tree_of node ≡ If (length old.points) (trees (map tree_of nodes)) (trees (map tree_of others)) → (place : Place) (else : Bool) → Takes form (written.If place t first second else) old new node
+if_taken form t first second old head inside between inside_second new node nodes others takes_head blocks node_is place else c follows =
+    let x = written.If place t first second else in
     let start = tested t c in
     let one = after_all form start first in
     let next = left_block start one in
@@ -110,22 +111,22 @@ if_taken form t first second old head inside between inside_second new node node
       plain = (block.plain, block_second.plain);
     }
 
-pub if_head_refused : (form : Form) (t : Test) (first second : Statements) (old : Walk) → RefusesHead form t old → (else : Bool) → Refuses form (written.If t first second else) old
-if_head_refused form t first second old refuses else c follows plain =
-    let x = written.If t first second else in
+pub if_head_refused : (form : Form) (t : Test) (first second : Statements) (old : Walk) → RefusesHead form t old → (place : Place) (else : Bool) → Refuses form (written.If place t first second else) old
+if_head_refused form t first second old refuses place else c follows plain =
+    let x = written.If place t first second else in
     broken_first form (at c x ∷ []) (situated_in form c x) (at c x, (0, omega arith, refl), refuses c x follows refl)
 
-pub if_first_refused : (form : Form) (t : Test) (first second : Statements) (old head : Walk) → TakesHead form t old head → RefusesAll form first head → (else : Bool) → Refuses form (written.If t first second else) old
-if_first_refused form t first second old head takes_head refuses else c follows plain =
-    let x = written.If t first second else in
+pub if_first_refused : (form : Form) (t : Test) (first second : Statements) (old head : Walk) → TakesHead form t old head → RefusesAll form first head → (place : Place) (else : Bool) → Refuses form (written.If place t first second else) old
+if_first_refused form t first second old head takes_head refuses place else c follows plain =
+    let x = written.If place t first second else in
     let start = tested t c in
     let next = left_block start (after_all form start first) in
     let begun = takes_head c x follows refl in
     broken_second form (at c x ∷ []) (situated_in form c x) (broken_first form (situated form start first) (situated form next second) (refuses start begun.follows plain.0))
 
-pub if_second_refused : (form : Form) (t : Test) (first second : Statements) (old head inside between : Walk) (nodes : List Node) → TakesHead form t old head → TakesBlock form first head inside nodes → DiffersInMarks inside between → between.names.assigned.items ≡ head.names.assigned.items → RefusesAll form second between → (else : Bool) → Refuses form (written.If t first second else) old
-if_second_refused form t first second old head inside between nodes takes_head takes_first same marks refuses else c follows plain =
-    let x = written.If t first second else in
+pub if_second_refused : (form : Form) (t : Test) (first second : Statements) (old head inside between : Walk) (nodes : List Node) → TakesHead form t old head → TakesBlock form first head inside nodes → DiffersInMarks inside between → between.names.assigned.items ≡ head.names.assigned.items → RefusesAll form second between → (place : Place) (else : Bool) → Refuses form (written.If place t first second else) old
+if_second_refused form t first second old head inside between nodes takes_head takes_first same marks refuses place else c follows plain =
+    let x = written.If place t first second else in
     let start = tested t c in
     let one = after_all form start first in
     let next = left_block start one in

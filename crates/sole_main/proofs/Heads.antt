@@ -8,7 +8,7 @@ use Rattle.client_model.specs.Points.{branch, call_at, declared_at, done_at}
 use Rattle.client_model.specs.Points as points_of
 use Rattle.client_model.specs.Rules as rules_of
 use Rattle.client_model.specs.Rules.{GivesOpaque, Mismatch}
-use Rattle.client_model.specs.Statements.{Statement, Assign, Declare, Do, If, While}
+use Rattle.client_model.specs.Statements.{Statement, Assign, Declare, Do, If, While, Break, Continue, Return}
 use Rattle.client_model.specs.declared.form.Point.TheVariants as point
 use Rattle.client_model.specs.declared.tree.Component.{Component}
 use Rattle.client_model.specs.declared.tree.Rhs.{Rhs}
@@ -38,36 +38,39 @@ record IsHead (form : Form) (c : Context) (t : Test) (x : Statement) : Type 0 wh
   declares : declared_at form (at c x) ≡ None
   taken : taken_as form c x ≡ None
   asks : Asks x
-  no_declaration : (of : Sort) (w : Word) (v : Option Rhs) → x ≢ Declare of w v
+  no_declaration : (place : Place) (of : Sort) (w : Word) (v : Option Rhs) → x ≢ Declare place of w v
   no_assignment : (w : Word) (v : Rhs) → x ≢ Assign w v
 
 is_head : (form : Form) (c : Context) (t : Test) (x : Statement) → Begins t x → IsHead form c t x
-is_head form c t (Declare of w v) begins = absurd begins
+is_head form c t (Declare place of w v) begins = absurd begins
 is_head form c t (Assign w v) begins = absurd begins
 is_head form c t (Do v) begins = absurd begins
-is_head form c t (If u first second written) begins = record {
+is_head form c t (Break place) begins = absurd begins
+is_head form c t (Continue place) begins = absurd begins
+is_head form c t (Return r) begins = absurd begins
+is_head form c t (If place u first second written) begins = record {
   value = ap value_of_test (sym begins);
   point_is = ap (branch c) (sym begins);
   declares = refl;
   taken = refl;
   asks = tt;
-  no_declaration = λ of w v is. absurd cc;
+  no_declaration = λ at_place of w v is. absurd cc;
   no_assignment = λ w v is. absurd cc;
 }
-is_head form c t (While u inner) begins = record {
+is_head form c t (While place u inner) begins = record {
   value = ap value_of_test (sym begins);
   point_is = ap (branch c) (sym begins);
   declares = refl;
   taken = refl;
   asks = tt;
-  no_declaration = λ of w v is. absurd cc;
+  no_declaration = λ at_place of w v is. absurd cc;
   no_assignment = λ w v is. absurd cc;
 }
 
 head_target : (form : Form) (c : Context) (t : Test) (x : Statement) → IsHead form c t x → ((k : Component) (m : Callee) → value_of_test t ≡ Some (rhs.Component k) → callee form c (rhs.Component k) ≡ Some m → GivesOpaque m) → KnowsTarget form (at c x)
 head_target form c t x head opaque = record {
-  type = λ w name v is none. head.no_declaration _ name v is;
-  new = λ of w v is. absurd (head.no_declaration of w v is);
+  type = λ place w name v is none. head.no_declaration place _ name v is;
+  new = λ place of w v is. absurd (head.no_declaration place of w v is);
   assigned = λ w v is none. head.no_assignment w v is;
   value = λ u given taken stands given_is taken_is.
       let e : None ≡ Some taken = sym head.taken ∙ taken_is in absurd cc;

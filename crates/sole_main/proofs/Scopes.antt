@@ -8,7 +8,7 @@ use Rattle.std.specs.Prelude.{Contains, IsSome, Option, Some, None, String, char
 use Rattle.client_model.specs.Contexts.{Context, Situated, Variable, after, after_all, situated, situated_in, tested, variable_named}
 use Rattle.client_model.specs.Lookups.{is_same}
 use Rattle.client_model.specs.Rules as rules_of
-use Rattle.client_model.specs.Statements.{Statement, Statements, Declare, Assign, Do, If, While, none, ◌▸◌}
+use Rattle.client_model.specs.Statements.{Statement, Statements, Declare, Assign, Do, If, While, Break, Continue, Return, none, ◌▸◌}
 use Rattle.client_model.specs.declared.form.Node.{Node}
 use Rattle.client_model.specs.declared.tree.Test.{Test}
 use Rattle.client_model.specs.declared.tree.Test.TheVariants as test
@@ -37,12 +37,15 @@ tested_scope (test.Free place) c = refl
 tested_scope (test.Call x) c = refl
 
 grows : (form : Form) (c : Context) (x : Statement) → Grows (declared_name x) c.scope (after form c x).scope
-grows form c (Declare of w None) = (_, refl, refl)
-grows form c (Declare of w (Some v)) = (_, refl, refl)
+grows form c (Declare place of w None) = (_, refl, refl)
+grows form c (Declare place of w (Some v)) = (_, refl, refl)
 grows form c (Assign w v) = refl
 grows form c (Do v) = refl
-grows form c (If t first second written) = tested_scope t c
-grows form c (While t inner) = tested_scope t c
+grows form c (If place t first second written) = tested_scope t c
+grows form c (While place t inner) = tested_scope t c
+grows form c (Break place) = refl
+grows form c (Continue place) = refl
+grows form c (Return r) = refl
 
 -- the variable that is declared has another name
 other_named : (v : Variable) (old : List Variable) (name : List ℕ) → is_same v.name name ≡ false → named (v ∷ old) name ≡ named old name
@@ -66,15 +69,18 @@ stays form c (x ▸ xs) name other =
     stays form (after form c x) xs name one.1 ∙ one.0
 
 not_duplicate : (form : Form) (c : Context) (x : Statement) (name : List ℕ) → declared_name x ≡ Some name → IsSound form (at c x) → variable_named c name ≡ None
-not_duplicate form c (Declare of w v) name is sound = by (variable_named c w.name) refl
+not_duplicate form c (Declare place of w v) name is sound = by (variable_named c w.name) refl
   where
     by : (o : Option Variable) → variable_named c w.name ≡ o → variable_named c name ≡ None
     by None found = let same : w.name ≡ name = cc in subst (λ n. variable_named c n ≡ None) same found
-    by (Some y) found = absurd (sound rules_of.Duplicate w.place (rules_of.duplicate w.place (rules_of.local of w v refl (subst IsSome (sym found) refl))))
+    by (Some y) found = absurd (sound rules_of.Duplicate w.place (rules_of.duplicate w.place (rules_of.local place of w v refl (subst IsSome (sym found) refl))))
 not_duplicate form c (Assign w v) name is sound = absurd cc
 not_duplicate form c (Do v) name is sound = absurd cc
-not_duplicate form c (If t first second written) name is sound = absurd cc
-not_duplicate form c (While t inner) name is sound = absurd cc
+not_duplicate form c (If place t first second written) name is sound = absurd cc
+not_duplicate form c (While place t inner) name is sound = absurd cc
+not_duplicate form c (Break place) name is sound = absurd cc
+not_duplicate form c (Continue place) name is sound = absurd cc
+not_duplicate form c (Return r) name is sound = absurd cc
 
 fresh_one : (d : Option (List ℕ)) (rest : List (List ℕ)) (old new : List Variable) (name : List ℕ) → Grows d old new → is_among name (cons_option d rest) ≡ true → ((mine : List ℕ) → d ≡ Some mine → named old mine ≡ None) → (is_among name rest ≡ true → named new name ≡ None) → named old name ≡ None
 fresh_one None rest old new name is among here later = subst (λ s. named s name ≡ None) is (later among)

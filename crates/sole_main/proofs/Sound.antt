@@ -127,15 +127,15 @@ called_so form s v m well calls =
 -- the type that the statement names and the variable that it assigns are there, a name that it declares is new, the value
 -- is of the class that takes it, and a test's call gives an opaque value
 pub record KnowsTarget (form : Form) (s : Situated) : Type 0 where
-  pub type : (w name : Word) (v : Option Rhs) → s.statement ≡ Declare (sort.Class w) name v → class_named form w.name ≢ None
-  pub new : (of : Sort) (w : Word) (v : Option Rhs) → s.statement ≡ Declare of w v → variable_named s.context w.name ≡ None
+  pub type : (place : Place) (w name : Word) (v : Option Rhs) → s.statement ≡ Declare place (sort.Class w) name v → class_named form w.name ≢ None
+  pub new : (place : Place) (of : Sort) (w : Word) (v : Option Rhs) → s.statement ≡ Declare place of w v → variable_named s.context w.name ≡ None
   pub assigned : (w : Word) (v : Rhs) → s.statement ≡ Assign w v → variable_named s.context w.name ≢ None
   pub value : (v : Rhs) (given taken : Option ℕ) → value_in s.statement ≡ Some v → value_class form s.context v ≡ Some given → taken_as form s.context s.statement ≡ Some taken → given ≡ taken
   pub given : (v : Rhs) (m : Callee) → value_in s.statement ≡ Some v → callee form s.context v ≡ Some m → IsSome (taken_as form s.context s.statement) → m.gives ≡ true
   pub asked : (x : Component) (m : Callee) → Asks s.statement → value_in s.statement ≡ Some (rhs.Component x) → callee form s.context (rhs.Component x) ≡ Some m → GivesOpaque m
 
 no_unknown : (form : Form) (s : Situated) (p : Place) → ReadsWell form s → KnowsTarget form s → HasUnknown form s p → ⊥
-no_unknown form s p well target (rules_of.type w name u is none) = target.type w name u is none
+no_unknown form s p well target (rules_of.type place w name u is none) = target.type place w name u is none
 no_unknown form s p well target (rules_of.made x is none) =
     let read = well (rhs.New x) is in made_there read.0 read.1
   where
@@ -183,8 +183,8 @@ no_mismatch form s p well target (rules_of.receiver x is opaque) =
         absurd cc
 
 pub no_fault : (form : Form) (s : Situated) → KnowsTarget form s → ReadsWell form s → IsSound form s
-no_fault form s target well rule p (rules_of.duplicate q (rules_of.local of w u is some)) =
-    let e : false ≡ true = rw (target.new of w u is) at some in
+no_fault form s target well rule p (rules_of.duplicate q (rules_of.local place of w u is some)) =
+    let e : false ≡ true = rw (target.new place of w u is) at some in
     absurd cc
 no_fault form s target well rule p (rules_of.unknown q fault) = no_unknown form s p well target fault
 no_fault form s target well rule p (rules_of.mismatch q fault) = no_mismatch form s p well target fault

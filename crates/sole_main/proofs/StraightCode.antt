@@ -6,7 +6,7 @@ use Rattle.client_model.specs.Contexts.{Context, after, situated, situated_in}
 use Rattle.client_model.specs.Nodes.{Step, count_in, node_at, shape_from, ◌▹◌}
 use Rattle.client_model.specs.Points.{point_of}
 use Rattle.client_model.specs.SoleMain.{AllCallNone, CallsNone}
-use Rattle.client_model.specs.Statements.{Statement, Statements, Assign, Declare, Do, If, While, none, statement_of, ◌▸◌}
+use Rattle.client_model.specs.Statements.{Statement, Statements, Assign, Declare, Do, If, While, Break, Continue, Return, none, statement_of, ◌▸◌}
 use Rattle.client_model.specs.Straight.{AreStraight, IsStraight}
 use Rattle.client_model.specs.declared.tree.Rhs.TheVariants as rhs
 use Rattle.client_model.specs.declared.tree.Stmt.{Stmt}
@@ -31,20 +31,23 @@ pub straight_there : (items : List Stmt) (k : ℕ) (x : Stmt) → k < length ite
 straight_there items k x within is all = straight_at (take k items) x (drop (k + 1) items) (subst (λ xs. AreStraight (plain xs)) (parted items k x within is) all)
 
 calls_none : (x : Statement) → IsStraight x → CallsNone x
-calls_none (Declare (sort.Class class) name (Some (rhs.New x))) is = tt
-calls_none (Declare (sort.Class class) name (Some (rhs.Component x))) is = tt
-calls_none (Declare (sort.Class class) name (Some (rhs.Copy x))) is = absurd is
-calls_none (Declare (sort.Class class) name (Some (rhs.Call x))) is = absurd is
-calls_none (Declare (sort.Class class) name None) is = absurd is
-calls_none (Declare (sort.Opaque kind) name v) is = absurd is
-calls_none (Declare sort.Void name v) is = absurd is
+calls_none (Declare place (sort.Class class) name (Some (rhs.New x))) is = tt
+calls_none (Declare place (sort.Class class) name (Some (rhs.Component x))) is = tt
+calls_none (Declare place (sort.Class class) name (Some (rhs.Copy x))) is = absurd is
+calls_none (Declare place (sort.Class class) name (Some (rhs.Call x))) is = absurd is
+calls_none (Declare place (sort.Class class) name None) is = absurd is
+calls_none (Declare place (sort.Opaque kind) name v) is = absurd is
+calls_none (Declare place sort.Void name v) is = absurd is
 calls_none (Assign w v) is = absurd is
 calls_none (Do (rhs.Component x)) is = tt
 calls_none (Do (rhs.New x)) is = absurd is
 calls_none (Do (rhs.Copy x)) is = absurd is
 calls_none (Do (rhs.Call x)) is = absurd is
-calls_none (If t first second written) is = absurd is
-calls_none (While t inner) is = absurd is
+calls_none (If place t first second written) is = absurd is
+calls_none (While place t inner) is = absurd is
+calls_none (Break place) is = absurd is
+calls_none (Continue place) is = absurd is
+calls_none (Return r) is = absurd is
 
 -- straight code calls no procedure
 pub straight_calls_none : (body : Statements) → AreStraight body → AllCallNone body
@@ -53,11 +56,14 @@ straight_calls_none (x ▸ xs) all = (calls_none x all.0, straight_calls_none xs
 
 -- a straight statement is a step, and holds no others
 is_step : (form : Form) (c : Context) (x : Statement) (number : ℕ) → IsStraight x → (node_at number x ≡ Step number) × (situated_in form c x ≡ []) × (count_in x ≡ 1)
-is_step form c (Declare of name v) number is = (refl, refl, refl)
+is_step form c (Declare place of name v) number is = (refl, refl, refl)
 is_step form c (Assign w v) number is = (refl, refl, refl)
 is_step form c (Do v) number is = (refl, refl, refl)
-is_step form c (If t first second written) number is = absurd is
-is_step form c (While t inner) number is = absurd is
+is_step form c (If place t first second written) number is = absurd is
+is_step form c (While place t inner) number is = absurd is
+is_step form c (Break place) number is = absurd is
+is_step form c (Continue place) number is = absurd is
+is_step form c (Return r) number is = absurd is
 
 -- the points of straight code stand in a row
 pub straight_shape : (form : Form) (c : Context) (body : Statements) (number : ℕ) → AreStraight body → shape_from number body ≡ steps_from number (map (point_of form) (situated form c body))

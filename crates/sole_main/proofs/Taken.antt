@@ -16,6 +16,7 @@ use Rattle.client_model.specs.declared.form.Point.TheVariants as point
 use Rattle.client_model.specs.declared.tree.Rhs.{Rhs}
 use Rattle.easl_model.specs.Checked.{IsInRange}
 use Rattle.easl_model.specs.Form.{Form}
+use Rattle.easl_model.specs.declared.place.Place.{Place}
 use Rattle.easl_model.specs.declared.tree.Sort.{Sort}
 use Rattle.easl_model.specs.declared.tree.Sort.TheVariants as sort
 use Rattle.easl_model.specs.declared.tree.Word.{Word}
@@ -58,20 +59,20 @@ reads_value form c x v y stands is u same =
     (y, subst (λ w. IsValue form c w y) one is)
 
 -- a local without a value
-bare_target : (form : Form) (c : Context) (of : Sort) (w : Word) → IsKnown form of → variable_named c w.name ≡ None → KnowsTarget form (at c (Declare of w None))
-bare_target form c of w known fresh = record {
-  type = λ word name u same none.
+bare_target : (form : Form) (c : Context) (place : Place) (of : Sort) (w : Word) → IsKnown form of → variable_named c w.name ≡ None → KnowsTarget form (at c (Declare place of w None))
+bare_target form c place of w known fresh = record {
+  type = λ at_place word name u same none.
       let one : of ≡ sort.Class word = cc in (subst (IsKnown form) one known) none;
-  new = λ sort' word u same. let one : w ≡ word = cc in ap (λ x. variable_named c x.name) (sym one) ∙ fresh;
+  new = λ at_place sort' word u same. let one : w ≡ word = cc in ap (λ x. variable_named c x.name) (sym one) ∙ fresh;
   assigned = λ word u same none. absurd cc;
   value = λ u given taken stands given_is taken_is. absurd cc;
   given = λ u m stands called some. absurd cc;
   asked = λ x m asks stands called. absurd asks;
 }
 
-pub declaration_taken : (form : Form) (of : Sort) (w : Word) (v : Variable) (old mid new : Walk) → Declares form of w v old mid → IsPut point.Nothing None mid new → TakesOne form (Declare of w None) old new
-declaration_taken form of w v old mid new declares put c before = record {
-  adds = adds_step form c (Declare of w None) point.Nothing None old mid new (record {
+pub declaration_taken : (form : Form) (of : Sort) (w : Word) (v : Variable) (old mid new : Walk) → Declares form of w v old mid → IsPut point.Nothing None mid new → (place : Place) → TakesOne form (Declare place of w None) old new
+declaration_taken form of w v old mid new declares put place c before = record {
+  adds = adds_step form c (Declare place of w None) point.Nothing None old mid new (record {
     put = put;
     points = declares.points;
     calls = declares.calls;
@@ -79,7 +80,7 @@ declaration_taken form of w v old mid new declares put c before = record {
     point_is = refl;
     call_is = refl;
     fits = λ m is. absurd cc;
-    sound = no_fault form (at c (Declare of w None)) (bare_target form c of w declares.known (declares.fresh c before)) (λ u stands. absurd cc);
+    sound = no_fault form (at c (Declare place of w None)) (bare_target form c place of w declares.known (declares.fresh c before)) (λ u stands. absurd cc);
   });
   follows = record {
     knows = rw (put.names) (record { holds = declares.holds c before; marks = λ n. rw (declares.assigned) (before.knows.marks n) });
@@ -90,20 +91,20 @@ declaration_taken form of w v old mid new declares put c before = record {
 }
 
 -- a declaration that is refused
-unknown_type : (form : Form) (c : Context) (of : Sort) (w : Word) (v : Option Rhs) → (IsKnown form of → ⊥) → IsBroken form (at c (Declare of w v))
-unknown_type form c sort.Void w v unknown = absurd (unknown tt)
-unknown_type form c (sort.Opaque kind) w v unknown = absurd (unknown tt)
-unknown_type form c (sort.Class k) w v unknown = by (class_named form k.name) refl
+unknown_type : (form : Form) (c : Context) (place : Place) (of : Sort) (w : Word) (v : Option Rhs) → (IsKnown form of → ⊥) → IsBroken form (at c (Declare place of w v))
+unknown_type form c place sort.Void w v unknown = absurd (unknown tt)
+unknown_type form c place (sort.Opaque kind) w v unknown = absurd (unknown tt)
+unknown_type form c place (sort.Class k) w v unknown = by (class_named form k.name) refl
   where
-    by : (n : Option ℕ) → class_named form k.name ≡ n → IsBroken form (at c (Declare (sort.Class k) w v))
-    by None none = (Unknown, k.place, rules_of.unknown k.place (rules_of.type k w v refl none))
+    by : (n : Option ℕ) → class_named form k.name ≡ n → IsBroken form (at c (Declare place (sort.Class k) w v))
+    by None none = (Unknown, k.place, rules_of.unknown k.place (rules_of.type place k w v refl none))
     by (Some n) is = absurd (unknown (λ none. let e : None ≡ Some n = sym none ∙ is in absurd cc))
 
-pub declaration_refused : (form : Form) (of : Sort) (w : Word) (v : Option Rhs) (old : Walk) → RefusesDeclaration form of w old → RefusesOne form (Declare of w v) old
-declaration_refused form of w v old refuses c before plain =
+pub declaration_refused : (form : Form) (of : Sort) (w : Word) (v : Option Rhs) (old : Walk) → RefusesDeclaration form of w old → (place : Place) → RefusesOne form (Declare place of w v) old
+declaration_refused form of w v old refuses place c before plain =
     elim (refuses c before) [
-      | inl unknown ↦ unknown_type form c of w v unknown
-      | inr there ↦ (Duplicate, w.place, rules_of.duplicate w.place (rules_of.local of w v refl there))
+      | inl unknown ↦ unknown_type form c place of w v unknown
+      | inr there ↦ (Duplicate, w.place, rules_of.duplicate w.place (rules_of.local place of w v refl there))
     ]
 
 -- a value that can't be read
@@ -125,9 +126,9 @@ other_broken form s v y taken stands is taken_is other = by (gives_in y) refl
     by true gives = (Mismatch, place_of v, rules_of.mismatch (place_of v) (rules_of.value v (class_in y) taken stands (class_of_value form s.context v y is) taken_is (other gives)))
     by false gives = nothing_broken form s v y taken stands is taken_is gives
 
-pub initial_refused : (form : Form) (of : Sort) (w : Word) (v : Rhs) (k : Variable) (y : Value) (old mid : Walk) → ((c : Context) → Knows c old.names → IsValue form c v y) → Declares form of w k old mid → (gives_in y ≡ true → class_in y ≡ k.class → ⊥) → RefusesOne form (Declare of w (Some v)) old
-initial_refused form of w v k y old mid reads declares other c before plain =
-    other_broken form (at c (Declare of w (Some v))) v y k.class refl (reads c before.knows) (ap Some (sym declares.class)) other
+pub initial_refused : (form : Form) (of : Sort) (w : Word) (v : Rhs) (k : Variable) (y : Value) (old mid : Walk) → ((c : Context) → Knows c old.names → IsValue form c v y) → Declares form of w k old mid → (gives_in y ≡ true → class_in y ≡ k.class → ⊥) → (place : Place) → RefusesOne form (Declare place of w (Some v)) old
+initial_refused form of w v k y old mid reads declares other place c before plain =
+    other_broken form (at c (Declare place of w (Some v))) v y k.class refl (reads c before.knows) (ap Some (sym declares.class)) other
 
 -- a variable that the table has is in scope
 scope_of : (c : Context) (name : List ℕ) (found : Variable) → Some found ≡ option_map kept (variable_named c name) → (v : told.Variable) × (variable_named c name ≡ Some v) × (kept v ≡ found)
@@ -153,8 +154,8 @@ target_refused form w v old held c before plain = by (variable_named c w.name) r
 -- a call or a construction alone
 action_target : (form : Form) (c : Context) (v : Rhs) → KnowsTarget form (at c (Do v))
 action_target form c v = record {
-  type = λ w name u is. absurd cc;
-  new = λ of w u is. absurd cc;
+  type = λ at_place w name u is. absurd cc;
+  new = λ at_place of w u is. absurd cc;
   assigned = λ w u is. absurd cc;
   value = λ u given taken stands is none. absurd cc;
   given = λ u m stands called none. absurd cc;
@@ -188,11 +189,11 @@ pub record IsMarked (number : ℕ) (old new : Walk) : Type 0 where
   pub calls : new.calls.items ≡ old.calls.items
 
 -- a local with its value
-initial_target : (form : Form) (c : Context) (of : Sort) (w : Word) (v : Rhs) (y : Value) → IsKnown form of → variable_named c w.name ≡ None → IsValue form c v y → gives_in y ≡ true → class_in y ≡ class_of form of → KnowsTarget form (at c (Declare of w (Some v)))
-initial_target form c of w v y known fresh is gives class = record {
-  type = λ word name u same none.
+initial_target : (form : Form) (c : Context) (place : Place) (of : Sort) (w : Word) (v : Rhs) (y : Value) → IsKnown form of → variable_named c w.name ≡ None → IsValue form c v y → gives_in y ≡ true → class_in y ≡ class_of form of → KnowsTarget form (at c (Declare place of w (Some v)))
+initial_target form c place of w v y known fresh is gives class = record {
+  type = λ at_place word name u same none.
       let one : of ≡ sort.Class word = cc in (subst (IsKnown form) one known) none;
-  new = λ sort' word u same. let one : w ≡ word = cc in ap (λ x. variable_named c x.name) (sym one) ∙ fresh;
+  new = λ at_place sort' word u same. let one : w ≡ word = cc in ap (λ x. variable_named c x.name) (sym one) ∙ fresh;
   assigned = λ word u same none. absurd cc;
   value = λ u given taken stands given_is taken_is. value_same form c v y (class_of form of) u given taken is class (cc) given_is taken_is;
   given = λ u m stands called some. gives_same form c v y u m is gives (cc) called;
@@ -200,8 +201,8 @@ initial_target form c of w v y known fresh is gives class = record {
 }
 
 -- the variable that is declared with a value is the one that is assigned
-after_initial : (form : Form) (c : Context) (of : Sort) (w : Word) (v : Rhs) → after form c (Declare of w (Some v)) ≡ record (declared form of w (evaluated v c)) { assigned = c.variables ∷ c.assigned }
-after_initial form c of w v = rw ((bytes_eq-Decides w.name w.name).1 refl) refl
+after_initial : (form : Form) (c : Context) (place : Place) (of : Sort) (w : Word) (v : Rhs) → after form c (Declare place of w (Some v)) ≡ record (declared form of w (evaluated v c)) { assigned = c.variables ∷ c.assigned }
+after_initial form c place of w v = rw ((bytes_eq-Decides w.name w.name).1 refl) refl
 
 initial_follows : (form : Form) (c : Context) (of : Sort) (w : Word) (v : Rhs) (k : Variable) (y : Value) (old mid marked new : Walk) (p : _) → Follows c old → IsValue form c v y → Declares form of w k old mid → IsMarked k.number mid marked → IsPut p (call_in y) marked new → Follows (record (declared form of w (evaluated v c)) { assigned = c.variables ∷ c.assigned }) new
 initial_follows form c of w v k y old mid marked new p before is declares marks put = record {
@@ -213,14 +214,14 @@ initial_follows form c of w v k y old mid marked new p before is declares marks 
   calls = calls_behind form c v y p marked new is put (before.calls ∙ sym (ap length (marks.calls ∙ declares.calls)));
 }
 
-pub initial_taken : (form : Form) (of : Sort) (w : Word) (v : Rhs) (k : Variable) (y : Value) (target : Option ℕ) (old mid marked new : Walk) → ((c : Context) → Knows c old.names → IsValue form c v y) → Declares form of w k old mid → gives_in y ≡ true → class_in y ≡ k.class → IsMarked k.number mid marked → target ≡ option_map (λ class. 4 * k.number + 1) k.class → IsPut (point_for target (length marked.calls.items) y) (call_in y) marked new → TakesOne form (Declare of w (Some v)) old new
-initial_taken form of w v k y target old mid marked new reads declares gives class marks target_is put c before =
+pub initial_taken : (form : Form) (of : Sort) (w : Word) (v : Rhs) (k : Variable) (y : Value) (target : Option ℕ) (old mid marked new : Walk) → ((c : Context) → Knows c old.names → IsValue form c v y) → Declares form of w k old mid → gives_in y ≡ true → class_in y ≡ k.class → IsMarked k.number mid marked → target ≡ option_map (λ class. 4 * k.number + 1) k.class → IsPut (point_for target (length marked.calls.items) y) (call_in y) marked new → (place : Place) → TakesOne form (Declare place of w (Some v)) old new
+initial_taken form of w v k y target old mid marked new reads declares gives class marks target_is put place c before =
     let is = reads c before.knows in
     let call_number : c.calls ≡ length marked.calls.items = before.calls ∙ sym (ap length (marks.calls ∙ declares.calls)) in
     let target_so : target ≡ option_map (λ class. 4 * c.variables + 1) (class_of form of) = target_is ∙ rw (declares.class, declares.number, before.variables) refl in
     let p = point_for target (length marked.calls.items) y in
     record {
-      adds = adds_step form c (Declare of w (Some v)) p (call_in y) old marked new (record {
+      adds = adds_step form c (Declare place of w (Some v)) p (call_in y) old marked new (record {
         put = put;
         points = marks.points ∙ declares.points;
         calls = marks.calls ∙ declares.calls;
@@ -228,17 +229,17 @@ initial_taken form of w v k y target old mid marked new reads declares gives cla
         point_is = value_point form c v y target (length marked.calls.items) call_number is ∙ ap (λ t. assigns c t v) target_so;
         call_is = value_site form c v y (length old.points) is;
         fits = value_fits form c v y (length old.points) is;
-        sound = no_fault form (at c (Declare of w (Some v))) (initial_target form c of w v y declares.known (declares.fresh c before) is gives (class ∙ declares.class)) (reads_value form c (Declare of w (Some v)) v y refl is);
+        sound = no_fault form (at c (Declare place of w (Some v))) (initial_target form c place of w v y declares.known (declares.fresh c before) is gives (class ∙ declares.class)) (reads_value form c (Declare place of w (Some v)) v y refl is);
       });
-      follows = subst (λ d. Follows d new) (sym (after_initial form c of w v)) (initial_follows form c of w v k y old mid marked new p before is declares marks put);
+      follows = subst (λ d. Follows d new) (sym (after_initial form c place of w v)) (initial_follows form c of w v k y old mid marked new p before is declares marks put);
       plain = value_plain form c v y is;
     }
 
 -- an assignment
 assigned_target : (form : Form) (c : Context) (w : Word) (v : Rhs) (u : told.Variable) (y : Value) → variable_named c w.name ≡ Some u → IsValue form c v y → gives_in y ≡ true → class_in y ≡ u.class → KnowsTarget form (at c (Assign w v))
 assigned_target form c w v u y named is gives class = record {
-  type = λ word name o same none. absurd cc;
-  new = λ of word o same. absurd cc;
+  type = λ at_place word name o same none. absurd cc;
+  new = λ at_place of word o same. absurd cc;
   assigned = λ word o same none.
       let one : w ≡ word = cc in
       let e : Some u ≡ None = sym named ∙ ap (λ x. variable_named c x.name) one ∙ none in

@@ -1,5 +1,6 @@
 -- From a text to its client.
-use Rattle.std.proofs.Common.{◌≡◌, ◌≢◌, ℕ, ◌≤◌, List, ap, length, refl, subst, sym, ◌∙◌}
+use Rattle.std.proofs.Common.{◌≡◌, ◌≢◌, ℕ, ◌≤◌, List, [], ◌∷◌, ◌++◌, ap, length, map, refl, subst, sym, ◌∙◌}
+use Rattle.std.specs.List.{flat_map}
 use Rattle.std.specs.Prelude.{Err, IfOk, Ok, Result}
 use Rattle.std.proofs.lemmas.Result.{IfOk-weaker}
 use Rattle.client_model.proofs.Programs.{program_is}
@@ -8,14 +9,22 @@ use Rattle.client_model.specs.Grammar.{IsClient}
 use Rattle.client_model.specs.Program.{ClientForm}
 use Rattle.client_model.specs.SoleMain.{IsSoleMain}
 use Rattle.client_model.specs.Statements.{Statements}
-use Rattle.client_model.specs.Straight.{IsStraightMain}
+use Rattle.client_model.specs.Straight.{IsMain, IsStraightMain}
+use Rattle.client_model.specs.TreeLimits.{IsWithinLimits, excess_of_procedure}
 use Rattle.client_model.specs.declared.tree.Client.{Client}
-use Rattle.client_parser.proofs.Theorems.{one_answer}
+use Rattle.client_model.specs.declared.tree.Proc.{Proc}
+use Rattle.client_model.specs.declared.tree.Stmt.{Stmt}
+use Rattle.client_parser.proofs.Limited.{one_answer}
+use Rattle.client_parser.proofs.Theorems.{one_spelled}
+use Rattle.client_parser.specs.Answers.{ClientAnswers}
 use Rattle.client_run.specs.Straight.{steps_from}
 use Rattle.cv_lex.specs.declared.fault.TextFault.{TextFault}
 use Rattle.cv_lex.specs.declared.fault.TextFault.TheVariants as text_fault
 use Rattle.cv_read.specs.Answers.{Answers}
 use Rattle.easl_model.specs.Form.{Form}
+use Rattle.easl_model.specs.TreeLimits.{beyond}
+use Rattle.easl_model.specs.declared.fault.Which.TheVariants as which
+use Rattle.easl_model.specs.declared.tree.Param.{Param}
 use Rattle.sole_main.proofs.StraightCode.{straight_shape}
 use Rattle.sole_main.proofs.Wholes.{one_body, sole_main}
 use Rattle.sole_main.specs.Checked.{IsCheckedMain, IsCheckedStraight, IsNoMain, IsNoStraight, IsSpelled}
@@ -26,14 +35,14 @@ use Rattle.sole_main.specs.Reading.{IsNotRead, IsNotStraight, IsRead, IsReadStra
 pub is_spelled : (text : List ℕ) (client : Client) → length text ≤ 1048576 → SpellsClient text client → IsSpelled client
 is_spelled text client few s = (text, few, s.spells)
 
-pub spells : (text : List ℕ) (client : Client) → IsPlainText text → Answers IsClient text (Ok client) → SpellsClient text client
-spells text client plain (tokens, cut, shallow, spelled) = record {
+pub spells : (text : List ℕ) (client : Client) → IsPlainText text → ClientAnswers text (Ok client) → SpellsClient text client
+spells text client plain ((tokens, cut, shallow, spelled), within) = record {
   plain = plain;
   spells = record { tokens = tokens; cut = cut; shallow = shallow; spelled = spelled };
 }
 
 pub no_plain_text : (text : List ℕ) → (IsPlainText text → ⊥) → SpellsNone text
-no_plain_text text other client spelled = other spelled.plain
+no_plain_text text other client spelled within = other spelled.plain
 
 pub is_read : (form : Form) (text : List ℕ) (client : Client) (c : ClientForm) → SpellsClient text client → IsCheckedMain form client c → IsRead form text c
 is_read form text client c spelled checked = record {
@@ -70,7 +79,7 @@ ok_is x same = absurd cc
 -- a text spells one client
 one_client : (text : List ℕ) (x y : Client) → SpellsClient text x → SpellsClient text y → x ≡ y
 one_client text x y first second =
-    let same : Ok x ≡ Ok y = one_answer text (Ok x) (Ok y) (ok_is x) (ok_is y) (answer_of text x first) (answer_of text y second) in
+    let same : Ok x ≡ Ok y = one_spelled text (Ok x) (Ok y) (ok_is x) (ok_is y) (answer_of text x first) (answer_of text y second) in
     cc
 
 pub not_read : (form : Form) (text : List ℕ) (client : Client) → SpellsClient text client → IsNoMain form client → IsNotRead form text
@@ -85,15 +94,22 @@ err_is e other (Err f) is same =
     let memory : f ≡ text_fault.Memory = cc in
     other (sym here ∙ memory)
 
--- a text with a fault spells no client
-pub spells_none : (text : List ℕ) (e : TextFault) → Answers IsClient text (Err e) → e ≢ text_fault.Memory → SpellsNone text
-spells_none text e answers other client spelled =
+-- a text with a fault spells no client that keeps the limit
+pub spells_none : (text : List ℕ) (e : TextFault) → ClientAnswers text (Err e) → e ≢ text_fault.Memory → SpellsNone text
+spells_none text e answers other client spelled within =
     let r : Result Client TextFault = Err e in
-    let same : Ok client ≡ r = one_answer text (Ok client) r (ok_is client) (err_is e other r refl) (answer_of text client spelled) answers in
+    let same : Ok client ≡ r = one_answer text (Ok client) r (ok_is client) (err_is e other r refl) (answer_of text client spelled, within) answers in
     absurd cc
 
+-- a client whose only item is a `main` without parameters keeps it
+keeps : (client : Client) (main : Proc) → client.procedures ≡ main ∷ [] → main.params ≡ [] → IsWithinLimits client
+keeps client main only none = ap (flat_map excess_of_procedure) only ∙ ap (λ (ps : List Param). beyond 16 which.Parameters (map (λ p. p.place) ps) ++ []) none
+
+main_keeps : (client : Client) (items : List Stmt) → IsMain client items → IsWithinLimits client
+main_keeps client items is = keeps client is.main is.procedures is.bare.params
+
 pub not_spelled : (form : Form) (text : List ℕ) → SpellsNone text → IsNotRead form text
-not_spelled form text none body main = none main.client main.spells
+not_spelled form text none body main = none main.client main.spells (main_keeps main.client main.main.items main.main.main)
 
 pub not_read_straight : (form : Form) (text : List ℕ) (client : Client) → SpellsClient text client → IsNoStraight form client → IsNotStraight form text
 not_read_straight form text client spelled none body first =
@@ -101,7 +117,7 @@ not_read_straight form text client spelled none body first =
     none body (subst (λ x. IsStraightMain x body) one first.main) first.well_formed
 
 pub not_spelled_straight : (form : Form) (text : List ℕ) → SpellsNone text → IsNotStraight form text
-not_spelled_straight form text none body first = none first.client first.spells
+not_spelled_straight form text none body first = none first.client first.spells (main_keeps first.client first.main.items first.main.main)
 
 -- a text has one client of the form, and that one body
 pub one_main_client : (form : Form) (text : List ℕ) (x y : Statements) → IsMainClient form text x → IsMainClient form text y → x ≡ y

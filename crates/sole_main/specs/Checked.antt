@@ -16,7 +16,7 @@ use Rattle.sole_main.specs.declared.check.Parts.{Parts}
 abbrev pub program_of : Parts → Program
 program_of p = record { variables = p.variables; points = p.points; shape = p.shape; calls = p.calls.items }
 
--- the only item is this `main`, without parameters and a `return`
+-- the only item is this `main`, without parameters
 pub record IsOnly (client : Client) (main : Proc) : Type 0 where
   pub statics : client.statics ≡ []
   pub procedures : client.procedures ≡ main ∷ []

@@ -5,7 +5,7 @@ use Rattle.std.specs.List.{cons_option, list_any}
 use Rattle.client_model.specs.Contexts as told
 use Rattle.client_model.specs.Contexts.{Context, variable_named}
 use Rattle.client_model.specs.Lookups.{is_same}
-use Rattle.client_model.specs.Statements.{Statement, Statements, Declare, Assign, Do, If, While, none, ◌▸◌}
+use Rattle.client_model.specs.Statements.{Statement, Statements, Declare, Assign, Do, If, While, Break, Continue, Return, none, ◌▸◌}
 use Rattle.sole_main.specs.declared.scope.Names.{Names}
 use Rattle.sole_main.specs.declared.scope.Variable.{Variable}
 
@@ -35,11 +35,14 @@ pub record Knows (c : Context) (names : Names) : Type 0 where
 
 -- the name of the variable that a statement declares
 abbrev pub declared_name : Statement → Option (List ℕ)
-declared_name (Declare sort w v) = Some w.name
+declared_name (Declare place sort w v) = Some w.name
 declared_name (Assign w v) = None
 declared_name (Do v) = None
-declared_name (If t first second written) = None
-declared_name (While t inner) = None
+declared_name (If place t first second written) = None
+declared_name (While place t inner) = None
+declared_name (Break place) = None
+declared_name (Continue place) = None
+declared_name (Return r) = None
 
 -- the names of the variables that statements declare, those within other statements aside
 abbrev pub declared_names : Statements → List (List ℕ)

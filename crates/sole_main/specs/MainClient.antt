@@ -5,6 +5,7 @@ use Rattle.client_model.specs.Rules.{IsWellFormed}
 use Rattle.client_model.specs.SoleMain.{IsSoleMain}
 use Rattle.client_model.specs.Statements.{Statements}
 use Rattle.client_model.specs.Straight.{IsStraightMain}
+use Rattle.client_model.specs.TreeLimits.{IsWithinLimits}
 use Rattle.client_model.specs.declared.tree.Client.{Client}
 use Rattle.easl_model.specs.Form.{Form}
 use Rattle.sole_main.specs.Plain.{IsPlainText}
@@ -14,9 +15,9 @@ pub record SpellsClient (text : List ℕ) (client : Client) : Type 0 where
   pub plain : IsPlainText text
   pub spells : Spells text client
 
--- the text spells no client, or has other bytes
+-- the text spells no client that keeps the limit, or has other bytes
 abbrev pub SpellsNone : List ℕ → Type 0
-SpellsNone text = (client : Client) → SpellsClient text client → ⊥
+SpellsNone text = (client : Client) → SpellsClient text client → IsWithinLimits client → ⊥
 
 -- the only item is a `main` that calls no procedure, these are its statements, and it breaks no rule of the specification
 pub record IsMainClient (form : Form) (text : List ℕ) (body : Statements) : Type 0 where

@@ -5,7 +5,7 @@ use Rattle.client_model.specs.Lookups.{class_named, class_of}
 use Rattle.client_model.specs.Nodes.{node_at, shape_from, tree_of, trees}
 use Rattle.client_model.specs.Points.{calls_from, declared_at, point_of}
 use Rattle.client_model.specs.SoleMain.{AllCallNone, CallsNone}
-use Rattle.client_model.specs.Statements.{Statement, Statements, If, While, Declare, Assign, Do}
+use Rattle.client_model.specs.Statements.{Statement, Statements, If, While, Declare, Assign, Do, Break, Continue, Return}
 use Rattle.client_model.specs.declared.form.CallSite.{CallSite}
 use Rattle.client_model.specs.declared.form.Node.{Node}
 use Rattle.client_model.specs.declared.form.Point.{Point}
@@ -99,11 +99,14 @@ RefusesOne form x old = (c : Context) → Follows c old → CallsNone x → IsBr
 
 -- the statement begins with the test
 abbrev pub Begins : Test → Statement → Type 0
-Begins t (Declare of w v) = ⊥
+Begins t (Declare place of w v) = ⊥
 Begins t (Assign w v) = ⊥
 Begins t (Do v) = ⊥
-Begins t (If u first second written) = t ≡ u
-Begins t (While u inner) = t ≡ u
+Begins t (If place u first second written) = t ≡ u
+Begins t (While place u inner) = t ≡ u
+Begins t (Break place) = ⊥
+Begins t (Continue place) = ⊥
+Begins t (Return r) = ⊥
 
 -- the test of a statement is taken
 pub record IsHeadTaken (form : Form) (c : Context) (t : Test) (x : Statement) (old new : Walk) : Type 0 where

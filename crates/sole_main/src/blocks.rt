@@ -1,6 +1,7 @@
 //! Blocks of statements, and the statements that hold blocks.
 ghost use Rattle.std.specs.Prelude.{◌≡◌, ◌≢◌, Bool, Err, IfOk, IsErrOf, OnOk, length, map};
 ghost use Rattle.client_model.specs.Statements.{Declare, If, While, statement_of, statements};
+ghost use Rattle.easl_model.specs.declared.place.Place.{Place};
 ghost use Rattle.sole_main.specs.Walking.{Refuses, RefusesAll, RefusesOne, Takes, TakesAll, TakesBlock, TakesOne};
 
 use crate::fault::MainFault;
@@ -39,7 +40,7 @@ fn one(alloc: Global, spec: &CheckedSpec, walk: &mut Walk, item: &Stmt) -> Resul
 {
     let point = next_point(walk)?;
     match item {
-        Stmt::Declare(sort, name, value) => {
+        Stmt::Declare(_, sort, name, value) => {
             local(alloc, spec, walk, sort, name, value)?;
             Ok(Node::Step(point))
         }
@@ -51,10 +52,11 @@ fn one(alloc: Global, spec: &CheckedSpec, walk: &mut Walk, item: &Stmt) -> Resul
             acted(alloc, spec, walk, value)?;
             Ok(Node::Step(point))
         }
-        Stmt::If(test, first, second, _) => {
+        Stmt::If(_, test, first, second, _) => {
             branched(alloc, spec, walk, test, first.as_slice(), second.as_slice())
         }
-        Stmt::While(test, inner) => looped(alloc, spec, walk, test, inner.as_slice()),
+        Stmt::While(_, test, inner) => looped(alloc, spec, walk, test, inner.as_slice()),
+        Stmt::Break(_) | Stmt::Continue(_) | Stmt::Return(_) => Err(MainFault::NotBuilt),
     }
 }
 
@@ -67,8 +69,8 @@ fn local(
     name: &Word,
     value: &Option<Rhs>,
 ) -> Result<(), MainFault>
-    ensures takes { OnOk result (TakesOne spec.now (Declare sort.now name.now value.now) walk.old walk.new) }
-    ensures refuses { IsErrOf result MainFault.NotBuilt → RefusesOne spec.now (Declare sort.now name.now value.now) walk.old }
+    ensures takes { OnOk result ((place : Place) → TakesOne spec.now (Declare place sort.now name.now value.now) walk.old walk.new) }
+    ensures refuses { IsErrOf result MainFault.NotBuilt → (place : Place) → RefusesOne spec.now (Declare place sort.now name.now value.now) walk.old }
 {
     match value {
         None => declared(alloc, spec, walk, sort, name),
@@ -113,8 +115,8 @@ fn branched(
     first: &[Stmt],
     second: &[Stmt],
 ) -> Result<Node, MainFault>
-    ensures takes { IfOk result (λ node. (written : Bool) → Takes spec.now (If test.now (statements (map statement_of first.now)) (statements (map statement_of second.now)) written) walk.old walk.new node) }
-    ensures refuses { IsErrOf result MainFault.NotBuilt → (written : Bool) → Refuses spec.now (If test.now (statements (map statement_of first.now)) (statements (map statement_of second.now)) written) walk.old }
+    ensures takes { IfOk result (λ node. (place : Place) (written : Bool) → Takes spec.now (If place test.now (statements (map statement_of first.now)) (statements (map statement_of second.now)) written) walk.old walk.new node) }
+    ensures refuses { IsErrOf result MainFault.NotBuilt → (place : Place) (written : Bool) → Refuses spec.now (If place test.now (statements (map statement_of first.now)) (statements (map statement_of second.now)) written) walk.old }
 {
     let point = next_point(walk)?;
     asked(alloc, spec, walk, test)?;
@@ -135,8 +137,8 @@ fn looped(
     test: &Test,
     inner: &[Stmt],
 ) -> Result<Node, MainFault>
-    ensures takes { IfOk result (λ node. Takes spec.now (While test.now (statements (map statement_of inner.now))) walk.old walk.new node) }
-    ensures refuses { IsErrOf result MainFault.NotBuilt → Refuses spec.now (While test.now (statements (map statement_of inner.now))) walk.old }
+    ensures takes { IfOk result (λ node. (place : Place) → Takes spec.now (While place test.now (statements (map statement_of inner.now))) walk.old walk.new node) }
+    ensures refuses { IsErrOf result MainFault.NotBuilt → (place : Place) → Refuses spec.now (While place test.now (statements (map statement_of inner.now))) walk.old }
 {
     let point = next_point(walk)?;
     asked(alloc, spec, walk, test)?;

@@ -25,7 +25,8 @@ struct Parts {
 }
 
 /// Checks a client against a specification, and gives its checked form. `NotBuilt` comes exactly where its only
-/// item is no `main` without procedure calls, or where it breaks a rule; `Memory` where none is found.
+/// item is no `main` without procedure calls, `break`, `continue` and `return`, or where it breaks a rule; `Memory` where none
+/// is found.
 #[tactic(auto, using(crate::proofs::Wholes::no_only, crate::proofs::Wholes::no_main))]
 pub(crate) fn check_main(
     alloc: Global,
@@ -43,7 +44,7 @@ pub(crate) fn check_main(
     put_together(alloc, spec, client, main, parts)
 }
 
-/// The procedure `main`, where it is the only item, with neither parameters nor a `return`.
+/// The procedure `main`, where it is the only item, without parameters.
 pub(crate) fn sole_main(client: &Client) -> Option<&Proc>
     ensures some { IfSome result (λ main. IsOnly client.now main.now) }
     ensures none { IfNone result ((main : tree.Proc) → IsOnly client.now main → ⊥) }
@@ -61,10 +62,7 @@ fn is_main(main: &Proc) -> bool
     ensures main { IsTrue result → IsBareMain main.now }
     ensures other { result ≡ false → IsBareMain main.now → ⊥ }
 {
-    is_void(&main.result)
-        && is_main_name(&main.name.name)
-        && main.params.is_empty()
-        && main.last.is_none()
+    is_void(&main.result) && is_main_name(&main.name.name) && main.params.is_empty()
 }
 
 fn is_void(sort: &Sort) -> bool

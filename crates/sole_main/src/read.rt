@@ -49,7 +49,8 @@ pub fn read_straight(
     }
 }
 
-/// The client that the text of plain bytes spells. `NotBuilt` comes where it has other bytes, or spells none.
+/// The client that the text of plain bytes spells. `NotBuilt` comes where it has other bytes, or spells none that keeps
+/// the limit.
 #[tactic(auto, using(crate::proofs::Texts::spells, crate::proofs::Texts::no_plain_text, crate::proofs::Texts::spells_none))]
 fn client_of(alloc: Global, text: &[u8]) -> Result<Client, MainFault>
     requires { length text.now ≤ 1048576 }

@@ -71,7 +71,8 @@ fn declared_name(item: &Stmt) -> Option<&Name>
     ensures { option_map (λ name. name.now) result ≡ declared_name (statement_of item.now) }
 {
     match item {
-        Stmt::Declare(_, word, _) => Some(&word.name),
+        Stmt::Declare(_, _, word, _) => Some(&word.name),
         Stmt::Assign(..) | Stmt::Do(_) | Stmt::If(..) | Stmt::While(..) => None,
+        Stmt::Break(_) | Stmt::Continue(_) | Stmt::Return(_) => None,
     }
 }

@@ -25,7 +25,7 @@ fn is_straight(item: &Stmt) -> bool
     ensures other { result ≡ false → IsStraight (statement_of item.now) → ⊥ }
 {
     match item {
-        Stmt::Declare(Sort::Class(_), _, Some(Rhs::New(_) | Rhs::Component(_))) => true,
+        Stmt::Declare(_, Sort::Class(_), _, Some(Rhs::New(_) | Rhs::Component(_))) => true,
         Stmt::Do(Rhs::Component(_)) => true,
         _ => false,
     }

@@ -3,6 +3,7 @@ ghost use Rattle.std.specs.Prelude.{◌≡◌, ◌≢◌, [], ◌∷◌, ◌++�
 ghost use Rattle.client_model.specs.Contexts.{nothing_yet};
 ghost use Rattle.client_model.specs.Lookups as lookups;
 ghost use Rattle.client_model.specs.Statements.{Assign, Declare, Do};
+ghost use Rattle.easl_model.specs.declared.place.Place.{Place};
 ghost use Rattle.client_model.specs.declared.tree.Test.TheVariants as test;
 ghost use Rattle.sole_main.specs.Walking.{Declares, Follows, IsKnown, IsPut, RefusesDeclaration, RefusesHead, RefusesOne, TakesHead, TakesOne, call_in, point_for, site_of};
 
@@ -53,8 +54,8 @@ pub(crate) fn declared(
     sort: &Sort,
     name: &Word,
 ) -> Result<(), MainFault>
-    ensures takes { OnOk result (TakesOne spec.now (Declare sort.now name.now None) walk.old walk.new) }
-    ensures refuses { IsErrOf result MainFault.NotBuilt → RefusesOne spec.now (Declare sort.now name.now None) walk.old }
+    ensures takes { OnOk result ((place : Place) → TakesOne spec.now (Declare place sort.now name.now None) walk.old walk.new) }
+    ensures refuses { IsErrOf result MainFault.NotBuilt → (place : Place) → RefusesOne spec.now (Declare place sort.now name.now None) walk.old }
 {
     variable(alloc, spec, walk, sort, name)?;
     put(walk, Point::Nothing, None)
@@ -69,8 +70,8 @@ pub(crate) fn initialised(
     name: &Word,
     written: &Rhs,
 ) -> Result<(), MainFault>
-    ensures takes { OnOk result (TakesOne spec.now (Declare sort.now name.now (Some written.now)) walk.old walk.new) }
-    ensures refuses { IsErrOf result MainFault.NotBuilt → RefusesOne spec.now (Declare sort.now name.now (Some written.now)) walk.old }
+    ensures takes { OnOk result ((place : Place) → TakesOne spec.now (Declare place sort.now name.now (Some written.now)) walk.old walk.new) }
+    ensures refuses { IsErrOf result MainFault.NotBuilt → (place : Place) → RefusesOne spec.now (Declare place sort.now name.now (Some written.now)) walk.old }
 {
     spec.is_kept();
     let value = evaluated(alloc, spec, &walk.names, written)?;

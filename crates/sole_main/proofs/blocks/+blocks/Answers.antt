@@ -3,7 +3,7 @@ use Rattle.client_model.proofs.PlainStatements.{plain}
 use Rattle.sole_main.proofs.Bodies.{all_taken, none_taken, one_refused, one_taken}
 use Rattle.sole_main.proofs.Branches.{if_first_refused, if_head_refused, if_second_refused, if_taken, loop_block_refused, loop_head_refused, loop_taken}
 use Rattle.sole_main.proofs.Scopes.{block_taken}
-use Rattle.sole_main.proofs.Single.{assign_refused, assign_taken, declare_refused, declare_taken, do_refused, do_taken, if_refused_at, if_taken_at, tree_if, tree_while, while_refused_at}
+use Rattle.sole_main.proofs.Single.{assign_refused, assign_taken, declare_refused, declare_taken, do_refused, do_taken, if_refused_at, if_taken_at, tree_if, tree_while, while_refused_at, while_taken_at}
 use Rattle.sole_main.specs.Holding.{is_marked}
 use Rattle.sole_main.specs.Walking.{TakesAll}
 use Rattle.sole_main.proofs.blocks.+blocks.Goals as goal
@@ -79,7 +79,7 @@ looped-returns-clause-takes t c =
 
 pub one-returns-in_err-local-in-Declare-clause-refuses : goal.one-returns-in_err-local-in-Declare-clause-refuses
 one-returns-in_err-local-in-Declare-clause-refuses t c e =
-    declare_refused c.args.spec.now c.args.item.now _ _ _ c.args.walk.now c.in-Declare.is (c.in_err-local-in-Declare.ensures.refuses (search rules))
+    declare_refused c.args.spec.now c.args.item.now _ _ _ _ c.args.walk.now c.in-Declare.is (c.in_err-local-in-Declare.ensures.refuses (search rules))
 
 pub one-returns-in_err-assigned-in-Assign-clause-refuses :
     goal.one-returns-in_err-assigned-in-Assign-clause-refuses
@@ -93,7 +93,7 @@ one-returns-in_err-acted-in-Do-clause-refuses t c e =
 
 pub one-returns-in_ok-local-in-Declare-clause-takes : goal.one-returns-in_ok-local-in-Declare-clause-takes
 one-returns-in_ok-local-in-Declare-clause-takes t c =
-    declare_taken c.args.spec.now c.args.item.now _ _ _ c.args.walk.now c.local.new.walk c.in_ok-point.point c.in-Declare.is c.in_ok-point.ensures.number c.in_ok-local-in-Declare.ensures.takes
+    declare_taken c.args.spec.now c.args.item.now _ _ _ _ c.args.walk.now c.local.new.walk c.in_ok-point.point c.in-Declare.is c.in_ok-point.ensures.number c.in_ok-local-in-Declare.ensures.takes
 
 pub one-returns-in_ok-assigned-in-Assign-clause-takes :
     goal.one-returns-in_ok-assigned-in-Assign-clause-takes
@@ -106,15 +106,20 @@ one-returns-in_ok-acted-in-Do-clause-takes t c =
 
 pub one-returns-in-If-clause-takes : goal.one-returns-in-If-clause-takes
 one-returns-in-If-clause-takes t c =
-    if_taken_at c.args.spec.now c.args.item.now c.in-If.test c.in-If.first c.in-If.second c.as_slice.result.now c.as_slice-in-If.result.now c.in-If.field-3 c.args.walk.now c.branched.new.walk c.branched.result
+    if_taken_at c.args.spec.now c.args.item.now c.in-If.field-0 c.in-If.test c.in-If.first c.in-If.second c.as_slice.result.now c.as_slice-in-If.result.now c.in-If.field-4 c.args.walk.now c.branched.new.walk c.branched.result
     c.in-If.is c.as_slice.ensures c.as_slice-in-If.ensures c.branched.ensures.takes
 
 pub one-returns-in-If-clause-refuses : goal.one-returns-in-If-clause-refuses
 one-returns-in-If-clause-refuses t c e =
-    if_refused_at c.args.spec.now c.args.item.now c.in-If.test c.in-If.first c.in-If.second c.as_slice.result.now c.as_slice-in-If.result.now c.in-If.field-3 c.args.walk.now
+    if_refused_at c.args.spec.now c.args.item.now c.in-If.field-0 c.in-If.test c.in-If.first c.in-If.second c.as_slice.result.now c.as_slice-in-If.result.now c.in-If.field-4 c.args.walk.now
     c.in-If.is c.as_slice.ensures c.as_slice-in-If.ensures (c.branched.ensures.refuses e)
 
 pub one-returns-in-While-clause-refuses : goal.one-returns-in-While-clause-refuses
 one-returns-in-While-clause-refuses t c e =
-    while_refused_at c.args.spec.now c.args.item.now c.in-While.test c.in-While.inner c.as_slice-in-While.result.now c.args.walk.now
+    while_refused_at c.args.spec.now c.args.item.now c.in-While.field-0 c.in-While.test c.in-While.inner c.as_slice-in-While.result.now c.args.walk.now
     c.in-While.is c.as_slice-in-While.ensures (c.looped.ensures.refuses e)
+
+pub one-returns-in-While-clause-takes : goal.one-returns-in-While-clause-takes
+one-returns-in-While-clause-takes t c =
+    while_taken_at c.args.spec.now c.args.item.now c.in-While.field-0 c.in-While.test c.in-While.inner c.as_slice-in-While.result.now c.args.walk.now c.looped.new.walk c.looped.result
+    c.in-While.is c.as_slice-in-While.ensures c.looped.ensures.takes

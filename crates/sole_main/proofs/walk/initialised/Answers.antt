@@ -5,8 +5,8 @@ use Rattle.sole_main.proofs.Taken.{declaration_refused, initial_refused, initial
 use Rattle.sole_main.proofs.walk.initialised.Goals as goal
 
 pub returns-in_err-value-clause-refuses : goal.returns-in_err-value-clause-refuses
-returns-in_err-value-clause-refuses c e =
-    value_refused c.args.spec.now (Declare c.args.sort.now c.args.name.now (Some c.args.written.now)) c.args.written.now c.args.walk.now c.is_kept.ensures.in_range (λ plain. plain) refl
+returns-in_err-value-clause-refuses c e place =
+    value_refused c.args.spec.now (Declare place c.args.sort.now c.args.name.now (Some c.args.written.now)) c.args.written.now c.args.walk.now c.is_kept.ensures.in_range (λ plain. plain) refl
     (c.in_err-value.ensures.refused (search rules))
 
 pub returns-in_err-variable-clause-refuses : goal.returns-in_err-variable-clause-refuses
