@@ -1,0 +1,14 @@
+pub mod Codes
+mod ExamplesOfAssigned
+mod ExamplesOfHeaders
+mod ExamplesOfNames
+mod ExamplesOfOrder
+mod ExamplesOfPoints
+mod ExamplesOfTypes
+pub mod Kept
+pub mod Least
+pub mod Numbering
+pub mod SetReads
+pub mod Steps
+pub mod Texts
+pub mod Wholes
