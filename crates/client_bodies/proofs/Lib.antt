@@ -1,0 +1,5 @@
+pub mod InOrder
+pub mod Left
+pub mod Marked
+pub mod Started
+pub mod Walked

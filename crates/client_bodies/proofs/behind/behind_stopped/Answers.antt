@@ -1,0 +1,7 @@
+use Rattle.std.specs.Prelude.{None}
+use Rattle.std.proofs.Common.{refl}
+use Rattle.client_rules.specs.Contexts.{evaluated}
+use Rattle.client_bodies.proofs.behind.behind_stopped.Goals as goal
+
+pub returns-clause-behind : goal.returns-clause-behind
+returns-clause-behind c d knows = c.stop.ensures.behind (evaluated None d) (c.in_ok-evaluate.ensures.behind d knows None refl)

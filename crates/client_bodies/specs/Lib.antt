@@ -1,0 +1,2 @@
+pub mod InTextOrder
+pub mod Walking

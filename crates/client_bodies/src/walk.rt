@@ -1,0 +1,144 @@
+//! The first fault of the statements of a block, in one walk that goes behind them.
+ghost use Rattle.std.specs.Prelude.{◌≡◌, ◌||◌, ℕ, IfOk, OnOk};
+ghost use Rattle.client_bodies.specs.Walking.{Grows, block, faults_inside, faults_of_trees, is_among};
+ghost use Rattle.client_model.specs.Statements.{statement_of};
+ghost use Rattle.client_rules.specs.Contexts as told;
+ghost use Rattle.client_values.specs.Knowing.{Knows, is_marked};
+ghost use Rattle.client_values.specs.ToldFaults.{Finds};
+
+use crate::behind::{
+    behind_assigned, behind_declared, behind_done, behind_initialised, behind_stopped,
+};
+use crate::blocks::{Block, join, leave, outside_of};
+use crate::statements::{all_go_on, faults_at};
+use crate::steps::{call_count_of_test, enter, evaluate};
+use client_model::{Stmt, Test};
+use client_values::{Context, Fault, Setting};
+use std::alloc::{AllocError, Global};
+
+/// The first fault of statements and what was found before; the context goes behind them.
+#[cycle(walk)]
+pub fn faults_of_statements(
+    alloc: Global,
+    setting: &Setting<'_>,
+    context: &mut Context,
+    items: &[Stmt],
+    start: Option<Fault>,
+) -> Result<Option<Fault>, AllocError>
+    ensures found { IfOk result (λ f. (c : told.Context) → Knows c context.old → Finds start f (faults_of_trees setting.now c (block items.now))) }
+    ensures behind { OnOk result ((c : told.Context) → Knows c context.old → Knows (told.after_all setting.now c (block items.now)) context.new) }
+    ensures grows { OnOk result (Grows context.old.assigned context.new.assigned) }
+{
+    let mut found = start;
+    'each: for item in items {
+        let here = faults_at(setting, context, item, found);
+        found = faults_inside(alloc, setting, context, item, here)?;
+    }
+    Ok(found)
+}
+
+/// That of what a statement holds; the context goes behind it.
+#[cycle(walk)]
+fn faults_inside(
+    alloc: Global,
+    setting: &Setting<'_>,
+    context: &mut Context,
+    item: &Stmt,
+    found: Option<Fault>,
+) -> Result<Option<Fault>, AllocError>
+    ensures found { IfOk result (λ f. (c : told.Context) → Knows c context.old → Finds found f (faults_inside setting.now c (statement_of item.now))) }
+    ensures behind { OnOk result ((c : told.Context) → Knows c context.old → Knows (told.after setting.now c (statement_of item.now)) context.new) }
+    ensures grows { OnOk result (Grows context.old.assigned context.new.assigned) }
+{
+    match item {
+        Stmt::Declare(_, sort, name, None) => {
+            behind_declared(alloc, setting, context, sort, name)?;
+            Ok(found)
+        }
+        Stmt::Declare(_, sort, name, Some(value)) => {
+            behind_initialised(alloc, setting, context, sort, name, value)?;
+            Ok(found)
+        }
+        Stmt::Assign(name, value) => {
+            behind_assigned(setting, context, name, value)?;
+            Ok(found)
+        }
+        Stmt::Do(value) => {
+            behind_done(context, value)?;
+            Ok(found)
+        }
+        Stmt::If(_, test, first, second, _) => {
+            evaluate(context, call_count_of_test(test))?;
+            let one = faults_of_block(alloc, setting, context, first.as_slice(), found)?;
+            let other = faults_of_block(alloc, setting, context, second.as_slice(), one.found)?;
+            join(context, &one, &other)?;
+            Ok(other.found)
+        }
+        Stmt::While(_, test, inner) => faults_of_while(
+            alloc,
+            setting,
+            context,
+            test,
+            inner.as_slice(),
+            found,
+        ),
+        Stmt::Break(_) | Stmt::Continue(_) | Stmt::Return(_) => {
+            behind_stopped(context)?;
+            Ok(found)
+        }
+    }
+}
+
+/// That of the block of a `while`; the context goes behind it.
+#[cycle(walk)]
+fn faults_of_while(
+    alloc: Global,
+    setting: &Setting<'_>,
+    context: &mut Context,
+    test: &Test,
+    items: &[Stmt],
+    start: Option<Fault>,
+) -> Result<Option<Fault>, AllocError>
+    ensures found { IfOk result (λ f. (c : told.Context) → Knows c context.old
+        → Finds start f (faults_of_trees setting.now (told.looping (told.evaluated (told.value_of_test test.now) c)) (block items.now))) }
+    ensures behind { OnOk result ((c : told.Context) → Knows c context.old
+        → Knows (told.counting c (told.after_all setting.now (told.looping (told.evaluated (told.value_of_test test.now) c)) (block items.now))) context.new) }
+    ensures assigned { OnOk result (context.new.assigned ≡ context.old.assigned) }
+{
+    evaluate(context, call_count_of_test(test))?;
+    let looped = context.looped;
+    context.looped = true;
+    let inner = faults_of_block(alloc, setting, context, items, start)?;
+    context.looped = looped;
+    Ok(inner.found)
+}
+
+/// What is known behind a block; the context goes behind it.
+#[cycle(walk)]
+fn faults_of_block(
+    alloc: Global,
+    setting: &Setting<'_>,
+    context: &mut Context,
+    items: &[Stmt],
+    start: Option<Fault>,
+) -> Result<Block, AllocError>
+    ensures found { IfOk result (λ b. (c : told.Context) → Knows c context.old → Finds start b.found (faults_of_trees setting.now (told.entered c) (block items.now))) }
+    ensures goes_on { IfOk result (λ b. b.goes_on ≡ told.ends_going_on (block items.now)) }
+    ensures behind { OnOk result ((c : told.Context) → Knows c context.old
+        → Knows (told.counting c (told.after_all setting.now (told.entered c) (block items.now))) context.new) }
+    ensures kept { OnOk result (context.new.assigned ≡ context.old.assigned) }
+    ensures assigned { IfOk result (λ b. (c : told.Context) → Knows c context.old → (code : ℕ)
+        → told.has (told.behind_block (block items.now) (told.after_all setting.now (told.entered c) (block items.now))) code
+        ≡ (is_among context.old.assigned code || is_marked b.assigned code)) }
+{
+    let outside = outside_of(context);
+    enter(context);
+    let found = faults_of_statements(alloc, setting, context, items, start)?;
+    let goes_on = all_go_on(true, items);
+    let assigned = leave(alloc, context, outside, goes_on)?;
+    Ok(Block {
+        found,
+        goes_on,
+        assigned,
+    })
+}

@@ -1,0 +1,4 @@
+pub mod Finding
+pub mod NamesFound
+pub mod Taking
+pub mod Texts

@@ -1,0 +1,11 @@
+use Rattle.std.proofs.Common.{option_map}
+use Rattle.client_values.proofs.Taking.{next_argument}
+use Rattle.client_values.specs.ToldFaults.{fault_told}
+use Rattle.client_values.specs.ToldKinds.{kind_told}
+use Rattle.client_values.proofs.arguments.faults_of_arguments.Goals as goal
+
+pub each-preserved : goal.each-preserved
+each-preserved c d knows =
+    next_argument kind_told c.args.setting.now d c.args.params.now c.args.args.now c.each.at c.index-args-at.result _
+    (option_map fault_told c.each.found) (option_map fault_told c.faults_of_argument-found.result) _
+    c.each-test.true c.index-args-at.is c.kind_in-taken.ensures (c.faults_of_argument-found.ensures d knows) (c.each.invariant d knows)

@@ -1,0 +1,92 @@
+//! What stands before a statement.
+ghost use Rattle.std.specs.Prelude.{◌≡◌, ◌==◌, option_map};
+ghost use Rattle.std.specs.List.{list_any};
+ghost use Rattle.client_values.specs.Knowing.{Knows, is_marked};
+ghost use Rattle.client_model.specs.Lookups.{is_same};
+ghost use Rattle.client_rules.specs.Contexts as told;
+ghost use Rattle.client_rules.specs.Settings.{variable_named};
+
+use crate::names::names_agree;
+use crate::setting::{Setting, Variable, variable_among};
+use easl_model::Name;
+use sqlite_items::Items;
+
+/// What is surely assigned: the names of these codes; or everything, where nothing goes on to.
+#[derive(Debug, Drop)]
+pub struct Assigned {
+    pub codes: Items<u32>,
+    pub everything: bool,
+}
+
+/// Before a statement: the parameters and locals in scope, in order; what is surely assigned; whether all before it in its
+/// block goes on; whether a `while` holds it; and how many variables and points of its procedure and how many calls of the
+/// client stand before it in the text.
+#[derive(Debug, Drop)]
+pub struct Context {
+    pub scope: Items<Variable>,
+    pub assigned: Assigned,
+    pub reached: bool,
+    pub looped: bool,
+    pub variables: u32,
+    pub points: u32,
+    pub calls: u32,
+}
+
+/// The parameter or local of this name that is in scope, else the static.
+#[tactic(auto, using(crate::proofs::Finding::find_both))]
+pub fn variable_named<'a>(
+    setting: &'a Setting<'_>,
+    context: &'a Context,
+    name: &Name,
+) -> Option<&'a Variable>
+    ensures { (c : told.Context) → Knows c context.now → option_map (λ v. v.now) result ≡ variable_named setting.now c.scope name.now }
+{
+    match variable_among(context.scope.as_slice(), name) {
+        Some(variable) => Some(variable),
+        None => variable_among(setting.statics, name),
+    }
+}
+
+/// Whether a parameter or local in scope has the name.
+pub fn is_local(context: &Context, name: &Name) -> bool
+    ensures { (c : told.Context) → Knows c context.now → result ≡ list_any (λ v. is_same v.name name.now) c.scope }
+{
+    is_named(context.scope.as_slice(), name)
+}
+
+#[tactic(auto, using(std::proofs::lemmas::List::drop_more))]
+fn is_named(variables: &[Variable], name: &Name) -> bool
+    ensures { result ≡ list_any (λ v. is_same v.name name.now) variables.now }
+{
+    'each: for variable in variables {
+        if names_agree(&variable.name, name) {
+            return true;
+        }
+    }
+    false
+}
+
+/// Whether the name of this code is surely assigned.
+pub(crate) fn is_assigned(context: &Context, code: u32) -> bool
+    ensures { (c : told.Context) → Knows c context.now → result ≡ told.has c.assigned code }
+{
+    has(&context.assigned, code)
+}
+
+pub fn has(assigned: &Assigned, code: u32) -> bool
+    ensures { result ≡ is_marked assigned.now code }
+{
+    assigned.everything || is_among(assigned.codes.as_slice(), code)
+}
+
+#[tactic(auto, using(std::proofs::lemmas::List::drop_more))]
+fn is_among(codes: &[u32], code: u32) -> bool
+    ensures { result ≡ list_any (λ x. x == code) codes.now }
+{
+    'each: for other in codes {
+        if *other == code {
+            return true;
+        }
+    }
+    false
+}
