@@ -1,0 +1,3 @@
+pub mod AllHeaders
+pub mod Duplicates
+pub mod InOrder

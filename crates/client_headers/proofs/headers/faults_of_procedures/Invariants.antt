@@ -1,0 +1,14 @@
+use Rattle.std.proofs.Common.{◌≡◌, drop}
+use Rattle.std.specs.List.{flat_map}
+use Rattle.std.specs.Prelude.{option_map}
+use Rattle.client_headers.proofs.headers.faults_of_procedures.Given as goal
+use Rattle.client_rules.specs.Faults.{comes_before}
+use Rattle.client_rules.specs.HeaderFaults.{faults_of_header}
+use Rattle.client_rules.specs.Trees.{procedure_of}
+use Rattle.client_values.specs.ToldFaults.{fault_told}
+use Rattle.easl_model.specs.Faults.{first_with}
+
+abbrev pub invariant-each : goal.invariant-each
+invariant-each l =
+    first_with comes_before (option_map fault_told l.found) (flat_map (λ p. faults_of_header l.spec (procedure_of p)) (drop l.procedure-index l.procedures))
+    ≡ first_with comes_before (option_map fault_told l.fn.start) (flat_map (λ p. faults_of_header l.spec (procedure_of p)) l.procedures)
