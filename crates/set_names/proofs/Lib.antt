@@ -1,0 +1,5 @@
+pub mod Ascending
+pub mod Codes
+mod Examples
+pub mod Numbers
+pub mod Standing
