@@ -1,0 +1,10 @@
+pub mod Answers
+pub mod Code
+pub mod Deeds
+pub mod Fitting
+pub mod Graph
+pub mod Kept
+pub mod Laws
+pub mod Places
+pub mod Returns
+pub mod Turns

@@ -1,0 +1,12 @@
+//! Runs of checked clients on the Easl heap, from point to point.
+#![tactic(auto)]
+
+mod frames;
+mod graph;
+mod laws;
+mod program;
+mod runner;
+mod state;
+
+pub use laws::{bodies_stay_inside, frames_keep_lengths, points_are_trees, sets_are_not_read};
+pub use runner::{Outcome, RunFault, run};
