@@ -5,6 +5,8 @@
 #[cfg(test)]
 mod abstractions;
 #[cfg(test)]
+mod client_faults;
+#[cfg(test)]
 mod clients;
 #[cfg(test)]
 mod closures;
@@ -12,6 +14,8 @@ mod closures;
 mod disjuncts;
 #[cfg(test)]
 mod heaps;
+#[cfg(test)]
+mod name_tables;
 #[cfg(test)]
 mod outside;
 #[cfg(test)]
@@ -22,6 +26,8 @@ mod questions;
 mod reading;
 #[cfg(test)]
 mod rules;
+#[cfg(test)]
+mod sets_of_names;
 #[cfg(test)]
 mod specifications;
 #[cfg(test)]
