@@ -29,7 +29,7 @@ use Rattle.client_print.specs.Bare as plain
 use Rattle.client_print.specs.Lines.{block_of}
 use Rattle.client_print.specs.Lines as lines
 use Rattle.client_print.proofs.StatementPrints.{block_tokens, statements_print}
-use Rattle.client_print.proofs.TypePrints.{type_print, result_print, params_print}
+use Rattle.easl_print.proofs.TypePrints.{type_print, result_print, params_print}
 use Rattle.client_print.proofs.ValuePrints.{initial_print}
 
 -- the tokens of items

@@ -4,6 +4,5 @@ pub mod Limits
 pub mod NestingRules
 pub mod SameText
 pub mod StatementPrints
-pub mod TypePrints
 pub mod ValuePrints
 pub mod Whole

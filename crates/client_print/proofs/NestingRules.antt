@@ -1,7 +1,11 @@
 -- Each rule prints what nests no deeper than the tokens that it read.
 use Rattle.std.proofs.Common.{ℕ, Bool, true, false, List, [], ◌∷◌, ◌++◌, Some, None, append-nil, refl, sym, subst}
 use Rattle.client_model.proofs.PlainStatements.{plain_declare, plain_assign, plain_do, plain_if, plain_while, plain_break, plain_continue, plain_return}
-use Rattle.client_model.specs.Grammar.{IsArg, name_arg, literal_arg, IsArgs, args, IsNew, new, IsComponent, component, IsCall, call, IsInitial, copy_initial, new_initial, component_initial, IsRhs, initial_rhs, call_rhs, IsAction, component_action, call_action, new_action, IsTest, free_test, call_test, IsGuard, guard, IsSet, set, IsStmt, declare, declare_set, assign, act, if_alone, if_else, while, break, continue, return, IsBlock, block, IsStmts, no_stmts, next_stmt, IsReturn, bare_return, with_return, IsStatic, static, IsProc, procedure, IsItems, no_items, next_static, next_procedure, IsClient, client}
+use Rattle.client_model.specs.Grammar.{IsArg, name_arg, literal_arg, IsArgs, args, IsNew, new, IsComponent, component, IsCall, call, IsInitial, copy_initial}
+use Rattle.client_model.specs.Grammar.{new_initial, component_initial, IsRhs, initial_rhs, call_rhs, IsAction, component_action, call_action, new_action}
+use Rattle.client_model.specs.Grammar.{IsTest, free_test, call_test, IsGuard, guard, IsSet, set, IsStmt, declare, declare_set, assign, act, if_alone, if_else}
+use Rattle.client_model.specs.Grammar.{while, break, continue, return, IsBlock, block, IsStmts, no_stmts, next_stmt, IsReturn, bare_return, with_return}
+use Rattle.client_model.specs.Grammar.{IsStatic, static, IsProc, procedure, IsItems, no_items, next_static, next_procedure, IsClient, client}
 use Rattle.client_model.specs.Statements.{Statement, statement_of}
 use Rattle.client_model.specs.declared.tree.Call.{Call}
 use Rattle.client_model.specs.declared.tree.Client.{Client}

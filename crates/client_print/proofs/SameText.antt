@@ -22,7 +22,8 @@ use Rattle.cv_layout.specs.Words.{named, bare_word}
 use Rattle.easl_print.specs.Bare.{bare_sort, bare_param}
 use Rattle.easl_print.specs.Lines.{sort, param, params, ended, alternative}
 use Rattle.client_print.specs.Bare.{Client, Procedure, bare_component, bare_value, bare_test, bare, bare_all, bare_static, bare_procedure, bare_client}
-use Rattle.client_print.specs.Lines.{argument, args, component, value, set, maybe_set, test, guard, statement_lines, block_lines, block_of, returned, static_line, procedure_lines, first_static, item_lines, client_lines, client_text}
+use Rattle.client_print.specs.Lines.{argument, args, component, value, set, maybe_set, test, guard, statement_lines, block_lines, block_of, returned}
+use Rattle.client_print.specs.Lines.{static_line, procedure_lines, first_static, item_lines, client_lines, client_text}
 
 each : {A B C : Type 0} (f : A → C) (g : B → C) (h : A → B) → ((x : A) → f x ≡ g (h x)) → (xs : List A) → map f xs ≡ map g (map h xs)
 each f g h e [] = refl

@@ -2,7 +2,8 @@
 use Rattle.std.proofs.Common.{◌≡◌, ℕ, true, false, List, [], ◌∷◌, ◌++◌, Option, Some, None, append-nil, refl, sym, ap, ◌∙◌, subst}
 use Rattle.std.specs.Str.{all_scalars}
 use Rattle.client_model.proofs.PlainStatements.{plain_declare, plain_assign, plain_do, plain_if, plain_while, plain_break, plain_continue, plain_return}
-use Rattle.client_model.specs.Grammar.{IsAction, IsGuard, IsSet, IsStmt, declare, declare_set, assign, act, if_alone, if_else, while, break, continue, return, IsBlock, block, IsStmts, no_stmts, next_stmt, IsReturn, bare_return, with_return}
+use Rattle.client_model.specs.Grammar.{IsAction, IsGuard, IsSet, IsStmt, declare, declare_set, assign, act, if_alone, if_else, while, break, continue, return}
+use Rattle.client_model.specs.Grammar.{IsBlock, block, IsStmts, no_stmts, next_stmt, IsReturn, bare_return, with_return}
 use Rattle.client_model.specs.Statements.{Statement, Statements, Declare, Assign, Do, If, While, Break, Continue, Return, none, statement_of, ◌▸◌}
 use Rattle.client_model.specs.declared.tree.Return.{Return as Returned}
 use Rattle.client_model.specs.declared.tree.Rhs.{Rhs}
@@ -33,7 +34,7 @@ use Rattle.client_print.specs.Bare.{bare_value, bare_test, bare, bare_all, bare_
 use Rattle.client_print.specs.Bare as plain
 use Rattle.client_print.specs.Lines.{block_of}
 use Rattle.client_print.specs.Lines as lines
-use Rattle.client_print.proofs.TypePrints.{type_print}
+use Rattle.easl_print.proofs.TypePrints.{type_print}
 use Rattle.client_print.proofs.ValuePrints.{action_print, arg_print, guard_print, set_print}
 
 -- the tokens of statements

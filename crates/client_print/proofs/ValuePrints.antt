@@ -1,6 +1,8 @@
 -- Calls, values and tests that are printed and read again are the same, places aside.
 use Rattle.std.proofs.Common.{◌≡◌, ℕ, List, [], ◌∷◌, map, refl, sym, ap, ◌∙◌, subst}
-use Rattle.client_model.specs.Grammar.{IsArg, name_arg, literal_arg, IsArgs, args, IsNew, new, IsComponent, component, IsCall, call, IsInitial, copy_initial, new_initial, component_initial, IsRhs, initial_rhs, call_rhs, IsAction, component_action, call_action, new_action, IsTest, free_test, call_test, IsGuard, guard, IsSet, set}
+use Rattle.client_model.specs.Grammar.{IsArg, name_arg, literal_arg, IsArgs, args, IsNew, new, IsComponent, component, IsCall, call, IsInitial, copy_initial}
+use Rattle.client_model.specs.Grammar.{new_initial, component_initial, IsRhs, initial_rhs, call_rhs, IsAction, component_action, call_action, new_action}
+use Rattle.client_model.specs.Grammar.{IsTest, free_test, call_test, IsGuard, guard, IsSet, set}
 use Rattle.client_model.specs.declared.tree.Call.{Call}
 use Rattle.client_model.specs.declared.tree.Component.{Component}
 use Rattle.client_model.specs.declared.tree.New.{New}

@@ -1,6 +1,6 @@
 -- What is printed and read again is the same tree, places aside.
 use Rattle.std.specs.Prelude.{◌≡◌, ℕ, List}
-use Rattle.client_model.specs.Checked.{Spells}
+use Rattle.client_model.specs.Spelling.{Spells}
 use Rattle.client_model.specs.TreeLimits.{IsWithinLimits}
 use Rattle.client_model.specs.declared.tree.Client.{Client}
 use Rattle.client_print.specs.Bare.{bare_client}

@@ -3,12 +3,12 @@ ghost use Rattle.std.specs.Prelude.{◌≡◌, drop, IfOk, OnOk};
 ghost use Rattle.cv_layout.specs.Page.{after_lines};
 ghost use Rattle.client_print.specs.Lines as lines;
 
-use crate::statements::{begin, block, close};
-use crate::types::{params, sort};
+use crate::statements::block;
 use crate::values::set;
 use client_model::{Client, Proc, Static};
 use cv_layout::Page;
 use easl_model::Key;
+use easl_print::{begin, close, params, sort};
 use std::alloc::{AllocError, Global};
 
 /// How deep a line stands that holds a statement of a procedure.

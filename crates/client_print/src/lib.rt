@@ -3,9 +3,7 @@
 
 mod items;
 mod laws;
-mod lists;
 mod statements;
-mod types;
 mod values;
 
 pub use items::print_client;

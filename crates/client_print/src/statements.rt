@@ -9,11 +9,11 @@ ghost use Rattle.easl_model.specs.declared.token.Mark.TheVariants as sign;
 ghost use Rattle.easl_print.specs.Lines as shared;
 ghost use Rattle.client_print.specs.Lines as lines;
 
-use crate::types::sort;
 use crate::values::{maybe_set, set, test, value};
 use client_model::{Return, Rhs, Stmt, Test};
 use cv_layout::Page;
 use easl_model::{Key, Mark, Sort, Word};
+use easl_print::{begin, close, otherwise, sort};
 use std::alloc::AllocError;
 
 /// The statements, one after another.
@@ -142,33 +142,6 @@ fn guard(page: &mut Page, depth: u32, word: Key, asked: &Test) -> Result<(), All
     test(page, asked)?;
     page.mark(Mark::Close)?;
     begin(page)
-}
-
-/// The line between two blocks.
-fn otherwise(page: &mut Page, depth: u32) -> Result<(), AllocError>
-    ensures { OnOk result (page.new ≡ after_lines page.old (line depth (mark sign.End ∷ key keyword.Else ∷ mark sign.Begin ∷ []))) }
-{
-    page.start(depth)?;
-    page.mark(Mark::End)?;
-    page.key(Key::Else)?;
-    begin(page)
-}
-
-/// The end of a line that opens a brace.
-pub(crate) fn begin(page: &mut Page) -> Result<(), AllocError>
-    ensures { OnOk result (page.new ≡ ended (put page.old (mark sign.Begin))) }
-{
-    page.mark(Mark::Begin)?;
-    page.end()
-}
-
-/// The line of a closing brace.
-pub(crate) fn close(page: &mut Page, depth: u32) -> Result<(), AllocError>
-    ensures { OnOk result (page.new ≡ after_lines page.old (line depth (mark sign.End ∷ []))) }
-{
-    page.start(depth)?;
-    page.mark(Mark::End)?;
-    page.end()
 }
 
 /// The line of a statement that is a keyword.

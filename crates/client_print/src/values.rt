@@ -3,19 +3,11 @@ ghost use Rattle.std.specs.Prelude.{◌≡◌, OnOk};
 ghost use Rattle.cv_layout.specs.Page.{after};
 ghost use Rattle.client_print.specs.Lines as lines;
 
-use crate::lists::{OnLine, listed};
 use client_model::{Call, Component, New, Rhs, Test};
 use cv_layout::Page;
 use easl_model::{Key, Mark, Word};
+use easl_print::listed;
 use std::alloc::AllocError;
-
-impl OnLine for Word {
-    ghost tokens = { lines.argument };
-
-    fn put(&self, page: &mut Page) -> Result<(), AllocError> {
-        page.word(&self.name)
-    }
-}
 
 /// Arguments with commas between them, in parentheses.
 #[tactic(auto, using(cv_layout::proofs::After::after_append))]

@@ -6,4 +6,5 @@ pub mod MemberPrints
 pub mod NestingRules
 pub mod PlainSteps
 pub mod SameText
+pub mod TypePrints
 pub mod Whole

@@ -1,11 +1,10 @@
 -- Members and classes that are printed and read again are the same, places aside.
-use Rattle.std.proofs.Common.{◌≡◌, ℕ, true, List, [], ◌∷◌, ◌++◌, Option, Some, None, map, flat_map, append_assoc, append-nil, refl, sym, ap, ◌∙◌, subst}
+use Rattle.std.proofs.Common.{◌≡◌, ℕ, List, [], ◌∷◌, ◌++◌, Option, Some, None, map, flat_map, append_assoc, append-nil, refl, sym, ap, ◌∙◌, subst}
 use Rattle.std.specs.List.{AllByRecursion}
 use Rattle.std.specs.Option.{option_map}
-use Rattle.std.specs.Str.{all_scalars}
-use Rattle.easl_model.specs.{Block, Clause, IsClass, IsClause, IsKey, IsMany, IsMark, IsMember, IsParam, IsParams, IsResult, IsReturn, IsSpec, IsType}
-use Rattle.easl_model.specs.{block_of, class, class_type, clause, clause_of, constructor, field, key_text, method, no_result, opaque_key, opaque_type, param}
-use Rattle.easl_model.specs.{params, some_result, spec, with_return, word_of}
+use Rattle.easl_model.specs.{Block, Clause, IsClass, IsClause, IsKey, IsMany, IsMember, IsReturn, IsSpec}
+use Rattle.easl_model.specs.{block_of, class, clause, clause_of, constructor, field, method}
+use Rattle.easl_model.specs.{spec, with_return, word_of}
 use Rattle.easl_model.specs.Grammar.{no_return}
 use Rattle.easl_model.specs.declared.place.Place.{Place}
 use Rattle.easl_model.specs.declared.token.Key.TheVariants as keyword
@@ -17,23 +16,22 @@ use Rattle.easl_model.specs.declared.tree.Requires.{Requires}
 use Rattle.easl_model.specs.declared.tree.Return.{Return}
 use Rattle.easl_model.specs.declared.tree.Member.{Member}
 use Rattle.easl_model.specs.declared.tree.Member.TheVariants as member
-use Rattle.easl_model.specs.declared.tree.Opaque.{Opaque}
-use Rattle.easl_model.specs.declared.tree.Opaque.TheVariants as opaque
 use Rattle.easl_model.specs.declared.tree.Param.{Param}
 use Rattle.easl_model.specs.declared.tree.Sort.{Sort}
 use Rattle.easl_model.specs.declared.tree.Sort.TheVariants as sorts
 use Rattle.easl_model.specs.declared.tree.Spec.{Spec}
 use Rattle.easl_model.specs.declared.tree.Value.{Value}
 use Rattle.easl_model.specs.declared.tree.Word.{Word}
-use Rattle.cv_layout.specs.{AreOf, IsProper, Lexeme, bare_word, key, mark, named, nowhere, separated}
+use Rattle.cv_layout.specs.{AreOf, IsProper, Lexeme, bare_word, key, mark, named, nowhere}
 use Rattle.easl_print.specs.Bare.{bare_value, bare_steps, bare_clause, bare_return, bare_sort, bare_param, bare_code, bare_member, bare_class, bare_spec}
 use Rattle.easl_print.specs.Bare as plain
 use Rattle.easl_print.specs.Lines.{condition, sort, ended}
 use Rattle.easl_print.specs.Lines as lines
 use Rattle.easl_print.proofs.BodyPrints.{value_print, brace, block_tokens, steps_print}
 use Rattle.easl_print.proofs.CondPrints.{bare_cond, condition_print}
+use Rattle.easl_print.proofs.TypePrints.{result_print, params_print}
 use Rattle.cv_layout.proofs.Enclosed.{enclosed}
-use Rattle.cv_layout.proofs.ListPrints.{listed_print, many_print}
+use Rattle.cv_layout.proofs.ListPrints.{many_print}
 use Rattle.cv_layout.proofs.Printed.{AreWritten, Prints}
 use Rattle.cv_layout.proofs.Single.{is_mark, is_key, is_name, mark_proper, key_proper, name_proper, same_word}
 use Rattle.cv_layout.proofs.Splits.{all_front, all_back, all_both, split, headed, ending, alone}
@@ -66,12 +64,6 @@ member_tokens (member.Method c) = sort c.result ∷ named c.name ∷ (lines.para
 abbrev pub class_tokens : Class → List Lexeme
 class_tokens c = key keyword.Class ∷ named c.name ∷ brace (flat_map member_tokens c.members)
 
-opaque_scalars : (o : Opaque) → all_scalars (key_text (opaque_key o)) ≡ true
-opaque_scalars opaque.Object = refl
-opaque_scalars opaque.Int = refl
-opaque_scalars opaque.Boolean = refl
-opaque_scalars opaque.String = refl
-
 module _ (text : List ℕ) where
   clause_print : (ts : List Token) (x : Requires) → AreWritten text ts → IsClause text ts x → Prints IsClause bare_clause (bare_clause x) (clause_tokens x)
   clause_print _ _ a (clause {semicolon = semicolon} {ts = ts} {x = x} k h l) =
@@ -87,65 +79,6 @@ module _ (text : List ℕ) where
       enclosed (key keyword.Return) sign.Semicolon (IsKey keyword.Return) (key_proper keyword.Return refl) refl (λ t o i. is_key t keyword.Return o i)
       (λ o y. Some (record { place = o.place; value = y })) (option_map bare_return) Some (λ o y. refl) (λ t o c ts y i k j. with_return i k j)
       (bare_value x) (lines.value x) (value_print text ts x (all_front _ ts (semicolon ∷ []) a.1) h)
-
-  type_print : (ts : List Token) (x : Sort) → AreWritten text ts → IsType text ts x → Prints IsType bare_sort (bare_sort x) (sort x ∷ [])
-  type_print _ _ a (opaque_type {o = o} k) = record {
-    proper = (key_proper (opaque_key o) (opaque_scalars o), tt);
-    again = λ other us m.
-        let y = headed other us (key (opaque_key o)) [] m in
-        let all : us ≡ y.0 ∷ [] = y.2 ∙ ap (λ u. y.0 ∷ u) (alone other us (key (opaque_key o)) m) in
-        (sorts.Opaque o, subst (λ u. IsType other u (sorts.Opaque o)) (sym all) (opaque_type (is_key other (opaque_key o) y.0 y.3)), refl);
-  }
-  type_print _ _ a (class_type {t = t} {w = w} n) = record {
-    proper = (name_proper text t w a.0 n, tt);
-    again = λ other us m.
-        let y = headed other us (named w) [] m in
-        let v = word_of other y.0 in
-        let all : us ≡ y.0 ∷ [] = y.2 ∙ ap (λ u. y.0 ∷ u) (alone other us (named w) m) in (
-          sorts.Class v,
-          subst (λ u. IsType other u (sorts.Class v)) (sym all) (class_type (is_name text other t y.0 w a.0 n y.3)),
-          ap sorts.Class
-              (same_word v w y.3.written),
-        );
-  }
-
-  result_print : (ts : List Token) (x : Sort) → AreWritten text ts → IsResult text ts x → Prints IsResult bare_sort (bare_sort x) (sort x ∷ [])
-  result_print _ _ a (no_result k) = record {
-    proper = (key_proper keyword.Void refl, tt);
-    again = λ other us m.
-        let y = headed other us (key keyword.Void) [] m in
-        let all : us ≡ y.0 ∷ [] = y.2 ∙ ap (λ u. y.0 ∷ u) (alone other us (key keyword.Void) m) in
-        (sorts.Void, subst (λ u. IsResult other u sorts.Void) (sym all) (no_result (is_key other keyword.Void y.0 y.3)), refl);
-  }
-  result_print ts x a (some_result h) =
-      let f = type_print ts x a h in
-      record { proper = f.proper; again = λ other us m. let r = f.again other us m in (r.0, some_result r.1, r.2) }
-
-  param_print : (ts : List Token) (x : Param) → AreWritten text ts → IsParam text ts x → Prints IsParam bare_param (bare_param x) (lines.param x)
-  param_print _ _ a (param {t = t} {name = name} {n = n} {x = x} h i) =
-      let f = type_print (t ∷ []) x (a.0, tt) h in
-      record {
-        proper = (f.proper.0, (name_proper text name n a.1.0 i, tt));
-        again = λ other us m.
-            let d = headed other us (sort x) (named n ∷ []) m in
-            let y = headed other d.1 (named n) [] d.4 in
-            let r = f.again other (d.0 ∷ []) (d.3, tt) in
-            let v = word_of other y.0 in
-            let made : Param = record { place = d.0.place; sort = r.0; name = v } in
-            let all : us ≡ d.0 ∷ y.0 ∷ [] = d.2 ∙ ap (λ u. d.0 ∷ u) (y.2 ∙ ap (λ u. y.0 ∷ u) (alone other d.1 (named n) d.4)) in (
-              made,
-              subst (λ u. IsParam other u made) (sym all) (param r.1 (is_name text other name y.0 n a.1.0 i y.3)),
-              ap (λ u. param_of u (bare_word v)) r.2 ∙ ap (param_of (bare_sort x)) (same_word v n y.3.written),
-            );
-      }
-
-  params_print : (ts : List Token) (xs : List Param) → AreWritten text ts → IsParams text ts xs → Prints IsParams (map bare_param) (map bare_param xs)
-      (lines.params xs)
-  params_print _ xs a (params {closing = closing} {ts = ts} o l z) =
-      enclosed (mark sign.Open) sign.Close (IsMark sign.Open) (mark_proper sign.Open refl) refl (λ t o i. is_mark t sign.Open o i)
-      (λ o y. y) (map bare_param) (λ c. c) (λ o y. refl) (λ t o c ts y i k j. params i k j)
-      (map bare_param xs) (separated sign.Comma (map lines.param xs))
-      (listed_print IsParam bare_param lines.param text param_print ts xs (all_front _ ts (closing ∷ []) a.1) l)
 
   clauses_print : (ts : List Token) (xs : List Requires) → AreWritten text ts → IsMany (IsClause text) ts xs → Prints (λ t. IsMany (IsClause t))
       (map bare_clause) (map bare_clause xs) (flat_map clause_tokens xs)
@@ -170,7 +103,7 @@ module _ (text : List ℕ) where
         );
   }
   member_print _ _ a (constructor {name = name} {begin = begin} {end = end} {n = n} {ts = ts} {us = us} {ps = ps} {xs = xs} i p b h e) =
-      let f = params_print ts ps (all_front _ ts (begin ∷ (us ++ end ∷ [])) a.1) p in
+      let f = params_print text ts ps (all_front _ ts (begin ∷ (us ++ end ∷ [])) a.1) p in
       let within = (all_back _ ts (begin ∷ (us ++ end ∷ [])) a.1).1 in
       let g = steps_print text us xs (all_front _ us (end ∷ []) within) h in
       let steps = block_tokens (block_of xs) in
@@ -212,8 +145,8 @@ module _ (text : List ℕ) where
       let a2 = all_back _ ts tail a.1.1 in
       let a3 = all_back _ us (vs ++ (ws ++ end ∷ [])) a2.1 in
       let a4 = all_back _ vs (ws ++ end ∷ []) a3 in
-      let fr = result_print (result ∷ []) res (a.0, tt) k in
-      let fp = params_print ts ps (all_front _ ts tail a.1.1) p in
+      let fr = result_print text (result ∷ []) res (a.0, tt) k in
+      let fp = params_print text ts ps (all_front _ ts tail a.1.1) p in
       let fc = clauses_print us cs (all_front _ us (vs ++ (ws ++ end ∷ [])) a2.1) c in
       let fs = steps_print text vs xs (all_front _ vs (ws ++ end ∷ []) a3) h in
       let fv = return_print ws x (all_front _ ws (end ∷ []) a4) w in

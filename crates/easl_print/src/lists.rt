@@ -8,7 +8,7 @@ use easl_model::Mark;
 use std::alloc::AllocError;
 
 /// What is printed within a line.
-pub(crate) trait OnLine {
+pub trait OnLine {
     ghost tokens: { Self → List Lexeme };
 
     fn put(&self, page: &mut Page) -> Result<(), AllocError>
@@ -25,7 +25,7 @@ pub(crate) trait OnLines {
 
 /// The items with commas between them.
 #[tactic(auto, using(cv_layout::proofs::After::after_append))]
-pub(crate) fn listed<T: OnLine>(page: &mut Page, items: &[T]) -> Result<(), AllocError>
+pub fn listed<T: OnLine>(page: &mut Page, items: &[T]) -> Result<(), AllocError>
     ensures { OnOk result (page.new ≡ after page.old (separated sign.Comma (map T.tokens items.now))) }
 {
     match items.split_first() {

@@ -5,10 +5,12 @@ ghost use Rattle.easl_model.specs.Grammar as grammar;
 ghost use Rattle.easl_model.specs.declared.tree.Member.TheVariants as member;
 ghost use Rattle.easl_print.specs.Lines as lines;
 
+use crate::braces::{begin, close};
 use crate::conditions::condition;
-use crate::lists::{OnLine, OnLines, each, listed};
+use crate::lists::{OnLines, each};
 use crate::paths::value;
-use crate::steps::{begin, block, close};
+use crate::steps::block;
+use crate::types::{params, sort};
 use cv_layout::Page;
 use easl_model::{
     Class, Code, Field, Key, Mark, Member, Opaque, Param, Requires, Return, Sort, Spec,
@@ -66,45 +68,6 @@ fn body(page: &mut Page, code: &Code) -> Result<(), AllocError>
     each(page, code.clauses.as_slice())?;
     block(page, WITHIN_BODY, code.body.as_slice())?;
     returned(page, &code.value)
-}
-
-impl OnLine for Param {
-    ghost tokens = { lines.param };
-
-    fn put(&self, page: &mut Page) -> Result<(), AllocError> {
-        sort(page, &self.sort)?;
-        page.word(&self.name.name)
-    }
-}
-
-fn sort(page: &mut Page, sort: &Sort) -> Result<(), AllocError>
-    ensures { OnOk result (page.new ≡ put page.old (lines.sort sort.now)) }
-{
-    match sort {
-        Sort::Void => page.key(Key::Void),
-        Sort::Opaque(kind) => page.key(opaque_key(*kind)),
-        Sort::Class(class) => page.word(&class.name),
-    }
-}
-
-fn opaque_key(kind: Opaque) -> Key
-    ensures { result ≡ grammar.opaque_key kind }
-{
-    match kind {
-        Opaque::Object => Key::Object,
-        Opaque::Int => Key::Int,
-        Opaque::Boolean => Key::Boolean,
-        Opaque::String => Key::String,
-    }
-}
-
-#[tactic(auto, using(cv_layout::proofs::After::after_append))]
-fn params(page: &mut Page, params: &[Param]) -> Result<(), AllocError>
-    ensures { OnOk result (page.new ≡ after page.old (lines.params params.now)) }
-{
-    page.mark(Mark::Open)?;
-    listed(page, params)?;
-    page.mark(Mark::Close)
 }
 
 impl OnLines for Member {

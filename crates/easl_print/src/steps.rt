@@ -6,6 +6,7 @@ ghost use Rattle.easl_model.specs.declared.token.Key.TheVariants as keyword;
 ghost use Rattle.easl_model.specs.declared.token.Mark.TheVariants as sign;
 ghost use Rattle.easl_print.specs.Lines as lines;
 
+use crate::braces::{begin, close, otherwise};
 use crate::conditions::condition;
 use crate::paths::{path, value};
 use cv_layout::Page;
@@ -120,31 +121,4 @@ fn guard(page: &mut Page, depth: u32, test: &Cond) -> Result<(), AllocError>
     condition(page, test)?;
     page.mark(Mark::Close)?;
     begin(page)
-}
-
-/// The line between two blocks.
-fn otherwise(page: &mut Page, depth: u32) -> Result<(), AllocError>
-    ensures { OnOk result (page.new ≡ after_lines page.old (line depth (mark sign.End ∷ key keyword.Else ∷ mark sign.Begin ∷ []))) }
-{
-    page.start(depth)?;
-    page.mark(Mark::End)?;
-    page.key(Key::Else)?;
-    begin(page)
-}
-
-/// The end of a line that opens a brace.
-pub(crate) fn begin(page: &mut Page) -> Result<(), AllocError>
-    ensures { OnOk result (page.new ≡ ended (put page.old (mark sign.Begin))) }
-{
-    page.mark(Mark::Begin)?;
-    page.end()
-}
-
-/// The line of a closing brace.
-pub(crate) fn close(page: &mut Page, depth: u32) -> Result<(), AllocError>
-    ensures { OnOk result (page.new ≡ after_lines page.old (line depth (mark sign.End ∷ []))) }
-{
-    page.start(depth)?;
-    page.mark(Mark::End)?;
-    page.end()
 }

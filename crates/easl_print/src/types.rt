@@ -1,13 +1,21 @@
-//! Types and parameters.
-ghost use Rattle.std.specs.Prelude.{◌≡◌, OnOk};
-ghost use Rattle.cv_layout.specs.Page.{after, put};
+//! Types, parameters and words, which are printed alike in both languages.
+ghost use Rattle.std.specs.Prelude.{◌≡◌, [], ◌∷◌, OnOk};
+ghost use Rattle.cv_layout.specs.{after, named, put};
 ghost use Rattle.easl_model.specs.Grammar as grammar;
 ghost use Rattle.easl_print.specs.Lines as lines;
 
 use crate::lists::{OnLine, listed};
 use cv_layout::Page;
-use easl_model::{Key, Mark, Opaque, Param, Sort};
+use easl_model::{Key, Mark, Opaque, Param, Sort, Word};
 use std::alloc::AllocError;
+
+impl OnLine for Word {
+    ghost tokens = { λ w. named w ∷ [] };
+
+    fn put(&self, page: &mut Page) -> Result<(), AllocError> {
+        page.word(&self.name)
+    }
+}
 
 impl OnLine for Param {
     ghost tokens = { lines.param };
@@ -18,7 +26,8 @@ impl OnLine for Param {
     }
 }
 
-pub(crate) fn sort(page: &mut Page, sort: &Sort) -> Result<(), AllocError>
+/// A type, or `void`.
+pub fn sort(page: &mut Page, sort: &Sort) -> Result<(), AllocError>
     ensures { OnOk result (page.new ≡ put page.old (lines.sort sort.now)) }
 {
     match sort {
@@ -41,7 +50,7 @@ fn opaque_key(kind: Opaque) -> Key
 
 /// Parameters with commas between them, in parentheses.
 #[tactic(auto, using(cv_layout::proofs::After::after_append))]
-pub(crate) fn params(page: &mut Page, params: &[Param]) -> Result<(), AllocError>
+pub fn params(page: &mut Page, params: &[Param]) -> Result<(), AllocError>
     ensures { OnOk result (page.new ≡ after page.old (lines.params params.now)) }
 {
     page.mark(Mark::Open)?;
