@@ -1,5 +1,16 @@
-pub mod ClientsInRange
-pub mod Counts
+pub mod Codes
+mod ExamplesOfAssigned
+mod ExamplesOfHeaders
+mod ExamplesOfNames
+mod ExamplesOfOrder
+mod ExamplesOfPoints
+mod ExamplesOfTypes
+pub mod Kept
+pub mod Least
+pub mod Numbering
 pub mod PlainStatements
-pub mod Programs
+pub mod SetReads
+pub mod Steps
+pub mod Texts
 pub mod TokenCounts
+pub mod Wholes

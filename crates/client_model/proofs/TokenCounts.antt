@@ -1,11 +1,12 @@
--- Each token takes a byte of the text, and each statement a token.
-use Rattle.std.proofs.Common.{◌≡◌, ℕ, suc, ◌+◌, ◌≤◌, Bool, List, [], ◌∷◌, ◌++◌, IsUtf8, chars, length, sym, ap, ◌∙◌, subst, arith, length-append}
+-- Each token takes a byte of the text, and each item and each statement a token.
+use Rattle.std.proofs.Common.{◌≡◌, ℕ, suc, ◌+◌, ◌≤◌, Bool, List, [], ◌∷◌, ◌++◌, IsUtf8, chars, length, sym, ap, ◌∙◌, arith, length-append}
 use Rattle.std.specs.Prelude.{None, Some, false, true}
 use Rattle.std.proofs.lemmas.Str.{chars-encodes, length-le-encodes}
 use Rattle.client_model.proofs.PlainStatements.{plain, plain_assign, plain_break, plain_continue, plain_declare, plain_do, plain_if, plain_return, plain_while}
-use Rattle.client_model.specs.Grammar.{IsBlock, IsClient, IsItems, IsProc, IsReturn, IsStmt, IsStmts, act, assign, bare_return, block, break, client, continue, declare, declare_set, if_alone, if_else, next_procedure, next_static, next_stmt, no_items, no_stmts, procedure, return, while, with_return}
+use Rattle.client_model.specs.Grammar.{IsBlock, IsClient, IsItems, IsProc, IsReturn, IsStatic, IsStmt, IsStmts, act, assign, bare_return, block, break, client, continue, declare, declare_set, if_alone, if_else, next_procedure, next_static, next_stmt, no_items, no_stmts, procedure, return, static, while, with_return}
 use Rattle.client_model.specs.Nodes.{count, count_in}
 use Rattle.client_model.specs.Statements.{statement_of}
+use Rattle.client_model.specs.Trees.{Initialiser, Item, Procedure, client_of, items_of}
 use Rattle.client_model.specs.declared.tree.Client.{Client}
 use Rattle.client_model.specs.declared.tree.Proc.{Proc}
 use Rattle.client_model.specs.declared.tree.Return.{Return}
@@ -33,6 +34,12 @@ chars_size text u =
 pub few_tokens : (text : List ℕ) (tokens : Tokens) → AreTokens text tokens → length tokens.list ≤ length text
 few_tokens text tokens are =
     omega (arith, few_in_cut [] (chars text) tokens.list are.cut, length-le-encodes (chars text), chars_size text are.utf8)
+
+-- how many items these are, and statements in their bodies
+abbrev pub size_of : List Item → ℕ
+size_of [] = 0
+size_of (Initialiser x ∷ rest) = suc (size_of rest)
+size_of (Procedure p ∷ rest) = suc (count p.body) + size_of rest
 
 module _ (text : List ℕ) where
   some_in_return : (ts : List Token) (r : Return) → IsReturn text ts r → 1 ≤ length ts
@@ -70,19 +77,20 @@ module _ (text : List ℕ) where
     few_in_stmts _ _ (next_stmt {ts = ts} {us = us} {x = x} {xs = xs} first rest) =
         omega (arith, length-append ts us, few_in_stmt ts x first, few_in_stmts us xs rest)
 
-  few_in_proc : (ts : List Token) (p : Proc) → IsProc text ts p → count (plain p.body) ≤ length ts
+  few_in_static : (ts : List Token) (x : Static) → IsStatic text ts x → 1 ≤ length ts
+  few_in_static _ _ (static key type name assigned value last) = omega arith
+
+  few_in_proc : (ts : List Token) (p : Proc) → IsProc text ts p → suc (count (plain p.body)) ≤ length ts
   few_in_proc _ _ (procedure {begin = b} {end = e} {ts = ts} {us = us} {xs = xs} gives name takes begin body end) =
       omega (arith, few_in_stmts us xs body, length-append ts (b ∷ (us ++ e ∷ [])), length-append us (e ∷ []))
 
-  few_in_items : (ts : List Token) (xs : List Static) (ys : List Proc) (order : List Bool) (p : Proc) → IsItems text ts xs ys order → ys ≡ p ∷ [] → count (plain p.body) ≤ length ts
-  few_in_items _ _ _ _ p no_items only = absurd cc
-  few_in_items _ _ _ _ p (next_static {ts = ts} {us = us} {xs = xs} {ys = ys} {order = order} first rest) only =
-      omega (arith, length-append ts us, few_in_items us xs ys order p rest only)
-  few_in_items _ _ _ _ p (next_procedure {ts = ts} {us = us} {y = y} first rest) only =
-      let same : y ≡ p = cc in
-      let few : count (plain p.body) ≤ length ts = subst (λ (q : Proc). count (plain q.body) ≤ length ts) same (few_in_proc ts y first) in
-      omega (arith, length-append ts us)
+  few_in_items : (ts : List Token) (xs : List Static) (ys : List Proc) (order : List Bool) → IsItems text ts xs ys order → size_of (items_of order xs ys) ≤ length ts
+  few_in_items _ _ _ _ no_items = omega arith
+  few_in_items _ _ _ _ (next_static {ts = ts} {us = us} {x = x} {xs = xs} {ys = ys} {order = order} first rest) =
+      omega (arith, length-append ts us, few_in_static ts x first, few_in_items us xs ys order rest)
+  few_in_items _ _ _ _ (next_procedure {ts = ts} {us = us} {y = y} {xs = xs} {ys = ys} {order = order} first rest) =
+      omega (arith, length-append ts us, few_in_proc ts y first, few_in_items us xs ys order rest)
 
-  -- the only procedure of a client has no more statements than there are tokens
-  pub few_in_client : (end : Place) (ts : List Token) (c : Client) (p : Proc) → IsClient text end ts c → c.procedures ≡ p ∷ [] → count (plain p.body) ≤ length ts
-  few_in_client end ts c p (client {xs = xs} {ys = ys} {order = order} items) only = few_in_items ts xs ys order p items only
+  -- a client has no more items and statements than there are tokens
+  pub few_in_client : (end : Place) (ts : List Token) (c : Client) → IsClient text end ts c → size_of (client_of c).items ≤ length ts
+  few_in_client end ts c (client {xs = xs} {ys = ys} {order = order} items) = few_in_items ts xs ys order items

@@ -1,48 +1,64 @@
--- The statements of a body in text order, each with what is in scope there and what is surely assigned.
-use Rattle.std.specs.Prelude.{ℕ, suc, ◌+◌, ◌==◌, List, [], ◌∷◌, ◌++◌, Option, Some, None, filter, find}
+-- What stands before a statement, and the statements of a body in text order, each with what stands before it.
+use Rattle.std.specs.Prelude.{ℕ, suc, ◌+◌, ◌==◌, Bool, true, false, ◌&&◌, ◌||◌, List, [], ◌∷◌, ◌++◌, Option, Some, None, filter, if◌then◌else◌}
 use Rattle.std.specs.List.{list_any}
 use Rattle.std.specs.Option.{option_map_or}
-use Rattle.client_model.specs.Lookups.{class_of, is_same}
-use Rattle.client_model.specs.Statements.{Statement, Statements, Declare, Assign, Do, If, While, Break, Continue, Return, none, ◌▸◌}
 use Rattle.client_model.specs.declared.tree.Rhs.{Rhs}
 use Rattle.client_model.specs.declared.tree.Rhs.TheVariants as rhs
 use Rattle.client_model.specs.declared.tree.Test.{Test}
 use Rattle.client_model.specs.declared.tree.Test.TheVariants as test
-use Rattle.easl_model.specs.Form.{Form}
+use Rattle.client_model.specs.Codes.{variable_code}
+use Rattle.client_model.specs.Settings.{Setting, Variable, kind_of, variable_named}
+use Rattle.client_model.specs.Statements.{Statement, Statements, Declare, Assign, Do, If, While, Break, Continue, Return, none, ◌▸◌}
 use Rattle.easl_model.specs.declared.tree.Sort.{Sort}
 use Rattle.easl_model.specs.declared.tree.Word.{Word}
 
--- a variable: its name, its class or None where it is opaque, and its number in the procedure
-pub record Variable : Type 0 where
-  pub name : List ℕ
-  pub class : Option ℕ
-  pub number : ℕ
+-- what is surely assigned: the names of these codes; or everything, where nothing goes on to
+pub data Assigned : Type 0 where
+  These : List ℕ → Assigned
+  Everything : Assigned
 
--- before a statement: the variables in scope, the numbers of those that are surely assigned, and how many variables
--- and calls stand before it in the text
+abbrev pub has : Assigned → ℕ → Bool
+has (These codes) code = list_any (λ x. x == code) codes
+has Everything code = true
+
+abbrev pub with_code : ℕ → Assigned → Assigned
+with_code code (These codes) = These (code ∷ codes)
+with_code code Everything = Everything
+
+-- what is assigned on both ways
+abbrev pub meet : Assigned → Assigned → Assigned
+meet (These xs) (These ys) = These (filter (has (These ys)) xs)
+meet (These xs) Everything = These xs
+meet Everything other = other
+
+-- before a statement: the parameters and locals in scope, in order; the codes of what is surely assigned; whether all
+-- before it in its block goes on; whether a `while` holds it; and how many variables and points of its procedure and how many
+-- calls of the client stand before it in the text
 pub record Context : Type 0 where
   pub scope : List Variable
-  pub assigned : List ℕ
+  pub assigned : Assigned
+  pub reached : Bool
+  pub looped : Bool
   pub variables : ℕ
+  pub points : ℕ
   pub calls : ℕ
 
--- before the first statement of a body without parameters
-abbrev pub nothing_yet : Context
-nothing_yet = record { scope = []; assigned = []; variables = 0; calls = 0 }
+abbrev mutual
+  -- a missing `else` is an empty block, which goes on
+  pub goes_on : Statement → Bool
+  goes_on (Break place) = false
+  goes_on (Continue place) = false
+  goes_on (Return r) = false
+  goes_on (If place t first second has_else) = block_goes_on true first || block_goes_on true second
+  goes_on x = true
 
-abbrev pub variable_named : Context → List ℕ → Option Variable
-variable_named c name = find (λ v. is_same v.name name) c.scope
+  -- a block goes on if its last statement does; where it is empty, if what stands before does
+  pub block_goes_on : Bool → Statements → Bool
+  block_goes_on before none = before
+  block_goes_on before (x ▸ xs) = block_goes_on (goes_on x) xs
 
--- a variable is declared
-abbrev pub declared : Form → Sort → Word → Context → Context
-declared form sort w c = record c {
-  scope = record { name = w.name; class = class_of form sort; number = c.variables } ∷ c.scope;
-  variables = suc c.variables;
-}
-
--- a variable is assigned
-abbrev pub assigned : Word → Context → Context
-assigned w c = record c { assigned = option_map_or (λ v. v.number ∷ c.assigned) (variable_named c w.name) c.assigned }
+abbrev pub ends_going_on : Statements → Bool
+ends_going_on block = block_goes_on true block
 
 -- how many component calls and constructions a value makes
 abbrev pub call_count : Rhs → ℕ
@@ -51,60 +67,87 @@ call_count (rhs.New x) = 1
 call_count (rhs.Component x) = 1
 call_count (rhs.Call x) = 0
 
-abbrev pub evaluated : Rhs → Context → Context
-evaluated v c = record c { calls = c.calls + call_count v }
+abbrev pub value_of_test : Test → Option Rhs
+value_of_test (test.Free place) = None
+value_of_test (test.Call x) = Some (rhs.Component x)
 
-abbrev pub tested : Test → Context → Context
-tested (test.Free place) c = c
-tested (test.Call x) c = record c { calls = suc c.calls }
+-- behind the point of a statement that evaluates this
+abbrev pub evaluated : Option Rhs → Context → Context
+evaluated v c = record c { points = suc c.points; calls = c.calls + option_map_or call_count v 0 }
 
--- what stands in both lists
-abbrev pub both : List ℕ → List ℕ → List ℕ
-both xs ys = filter (λ n. list_any (λ m. n == m) ys) xs
+-- a variable is declared
+abbrev pub declared : Setting → Sort → Word → Context → Context
+declared s sort w c = record c {
+  scope = c.scope ++ record { name = w.name; kind = kind_of s.form sort; code = variable_code c.variables } ∷ [];
+  variables = suc c.variables;
+}
 
--- behind an inner block: its variables are no longer in scope, and what the block assigns need not be assigned
-abbrev pub left_block : Context → Context → Context
-left_block before inside = record before { variables = inside.variables; calls = inside.calls }
+-- the name is assigned
+abbrev pub assigned : Setting → Word → Context → Context
+assigned s w c = record c { assigned = option_map_or (λ v. with_code v.code c.assigned) (variable_named s c.scope w.name) c.assigned }
+
+-- nothing behind it in its block is reached
+abbrev pub stopped : Context → Context
+stopped c = record c { reached = false }
+
+-- before the first statement of a block
+abbrev pub entered : Context → Context
+entered c = record c { reached = true }
+
+-- the same of a block that is repeated
+abbrev pub looping : Context → Context
+looping c = record c { reached = true; looped = true }
+
+-- behind a block that began in this context: its variables are no longer in scope, and what it assigns need not be assigned;
+-- only what stands in it is counted
+abbrev pub counting : Context → Context → Context
+counting c inner = record c { variables = inner.variables; points = inner.points; calls = inner.calls }
+
+-- what is assigned behind a block that ends in this context
+abbrev pub behind_block : Statements → Context → Assigned
+behind_block block end = if ends_going_on block then end.assigned else Everything
 
 abbrev mutual
-  -- behind a statement. After an `if` what both branches assign is assigned, after a `while` what was before it
-  pub after : Form → Context → Statement → Context
-  after form c (Declare at sort w None) = declared form sort w c
-  after form c (Declare at sort w (Some v)) = assigned w (declared form sort w (evaluated v c))
-  after form c (Assign w v) = assigned w (evaluated v c)
-  after form c (Do v) = evaluated v c
-  after form c (If at t first second written) =
-      let start = tested t c
-      in let one = after_all form start first
-      in let other = after_all form (left_block start one) second
-      in record (left_block start other) { assigned = both one.assigned other.assigned }
-  after form c (While at t inner) = let start = tested t c in left_block start (after_all form start inner)
-  after form c (Break at) = c
-  after form c (Continue at) = c
-  after form c (Return r) = c
+  -- behind a statement. Behind an `if` that is assigned which both blocks assign, a block that does not go on aside; behind
+  -- a `while` what was before it
+  pub after : Setting → Context → Statement → Context
+  after s c (Declare place sort w None) = declared s sort w (evaluated None c)
+  after s c (Declare place sort w (Some v)) = record (declared s sort w (evaluated (Some v) c)) { assigned = with_code (variable_code c.variables) c.assigned }
+  after s c (Assign w v) = assigned s w (evaluated (Some v) c)
+  after s c (Do v) = evaluated (Some v) c
+  after s c (If place t first second has_else) =
+      let start = evaluated (value_of_test t) c
+      in let one = after_all s (entered start) first
+      in let other = after_all s (entered (counting start one)) second
+      in record (counting c other) {
+        assigned = meet (behind_block first one) (behind_block second other);
+        reached = c.reached && (ends_going_on first || ends_going_on second);
+      }
+  after s c (While place t inner) = counting c (after_all s (looping (evaluated (value_of_test t) c)) inner)
+  after s c (Break place) = stopped (evaluated None c)
+  after s c (Continue place) = stopped (evaluated None c)
+  after s c (Return r) = stopped (evaluated None c)
 
-  pub after_all : Form → Context → Statements → Context
-  after_all form c none = c
-  after_all form c (x ▸ xs) = after_all form (after form c x) xs
+  pub after_all : Setting → Context → Statements → Context
+  after_all s c none = c
+  after_all s c (x ▸ xs) = after_all s (after s c x) xs
 
--- a statement with what stands before it
+-- a statement with what stands around and before it
 pub record Situated : Type 0 where
+  pub setting : Setting
   pub context : Context
   pub statement : Statement
 
 abbrev mutual
   -- the statements in text order, an `if` or `while` before what it holds
-  pub situated : Form → Context → Statements → List Situated
-  situated form c none = []
-  situated form c (x ▸ xs) = record { context = c; statement = x } ∷ situated_in form c x ++ situated form (after form c x) xs
+  pub situated : Setting → Context → Statements → List Situated
+  situated s c none = []
+  situated s c (x ▸ xs) = record { setting = s; context = c; statement = x } ∷ situated_in s c x ++ situated s (after s c x) xs
 
   -- those that stand in a statement
-  pub situated_in : Form → Context → Statement → List Situated
-  situated_in form c (Declare at sort w v) = []
-  situated_in form c (Assign w v) = []
-  situated_in form c (Do v) = []
-  situated_in form c (If at t first second written) = situated form (tested t c) first ++ situated form (left_block (tested t c) (after_all form (tested t c) first)) second
-  situated_in form c (While at t inner) = situated form (tested t c) inner
-  situated_in form c (Break at) = []
-  situated_in form c (Continue at) = []
-  situated_in form c (Return r) = []
+  pub situated_in : Setting → Context → Statement → List Situated
+  situated_in s c (If place t first second has_else) =
+      let start = evaluated (value_of_test t) c
+      in situated s (entered start) first ++ situated s (entered (counting start (after_all s (entered start) first))) second
+  situated_in s c (While place t inner) = situated s (looping (evaluated (value_of_test t) c)) inner
+  situated_in s c x = []

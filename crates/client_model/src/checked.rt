@@ -3,8 +3,8 @@ use crate::form::{CallSite, Procedure};
 use sqlite_items::Items;
 use std::marker::Model;
 
-/// A checked client, which contracts see as its checked form: so far that of a client whose only item is `main`,
-/// which some text spells and which breaks no rule of some specification.
+/// A checked client, which contracts see as its checked form: that of a client that is well-formed for some checked
+/// specification, but for the names that are set at its points, which it does not keep yet.
 #[derive(Debug, Drop)]
 pub struct CheckedClient {
     statics: Items<Option<u32>>,
@@ -35,17 +35,18 @@ impl CheckedClient {
     /// A client of these parts: the classes of the statics, None for an opaque one, the procedures, the start first, and
     /// the calls by number. It takes no memory.
     pub fn new(
-        statics: Vec<Option<u32>>,
-        procedures: Vec<Procedure>,
-        calls: Vec<CallSite>,
+        statics: Items<Option<u32>>,
+        procedures: Items<Procedure>,
+        calls: Items<CallSite>,
     ) -> CheckedClient
-        requires { IsCheckedClient (record { statics = statics.items; procedures = procedures.items; calls = calls.items }) }
-        ensures { result ≡ record { statics = statics.items; procedures = procedures.items; calls = calls.items } }
+        requires checked { IsCheckedClient (record { statics = statics; procedures = procedures; calls = calls }) }
+        requires in_range { IsInRange (record { statics = statics; procedures = procedures; calls = calls }) }
+        ensures { result ≡ record { statics = statics; procedures = procedures; calls = calls } }
     {
         CheckedClient {
-            statics: Items::from_vec(statics),
-            procedures: Items::from_vec(procedures),
-            calls: Items::from_vec(calls),
+            statics,
+            procedures,
+            calls,
         }
     }
 

@@ -26,9 +26,11 @@ use Rattle.cv_read.proofs.Levels.{mark_flat, key_flat, name_flat, begin_opens, e
 use Rattle.cv_read.proofs.Repeats.{Star, or_left, or_right}
 use Rattle.cv_read.proofs.Tested.{mark_to, mark_from, key_to, key_from, name_to, name_from}
 use Rattle.cv_read.proofs.TypeLaws.{opaque_flat, opaque_from, opaque_same, opaque_to, type_within, params_within}
-use Rattle.cv_read.proofs.Within.{ReadsWithin, got_within, mapped_within, respell_within, both_within, closed_within, led_within, opened_within, both_closes, mapped_closes, take_closes, two_ways_within, repeated_within}
+use Rattle.cv_read.proofs.Within.{ReadsWithin, got_within, mapped_within, respell_within, both_within, closed_within, led_within, opened_within, both_closes}
+use Rattle.cv_read.proofs.Within.{mapped_closes, take_closes, two_ways_within, repeated_within}
 use Rattle.cv_read.proofs.Words.{Led, Closed, led_starts}
-use Rattle.client_parser.specs.Reading.{initialised_at, static_behind, static_at, result_at, proc_at, item_at, item_starts, proc_starts, with_item, with_items, empty_client, gathered_at, client_at}
+use Rattle.client_parser.specs.Reading.{initialised_at, static_behind, static_at, result_at, proc_at, item_at, item_starts, proc_starts, with_item}
+use Rattle.client_parser.specs.Reading.{with_items, empty_client, gathered_at, client_at}
 use Rattle.client_parser.specs.declared.items.Item.{Item}
 use Rattle.client_parser.specs.declared.items.Item.TheVariants as item
 use Rattle.client_parser.proofs.StmtLaws.{StmtsGo, stmts_within}
@@ -89,9 +91,23 @@ nil_right (x ∷ xs) = ap (λ ys. x ∷ ys) (nil_right xs)
 all_gathered : (c : Client) (xs : List Item) → with_items c xs ≡ joined c xs
 all_gathered c [] = λ i. record { statics = nil_right c.statics i; procedures = nil_right c.procedures i; order = nil_right c.order i; end = c.end }
 all_gathered c (item.Static x ∷ xs) =
-    all_gathered (with_item c (item.Static x)) xs ∙ (λ i. record { statics = append_assoc c.statics (x ∷ []) (statics_in xs) i; procedures = c.procedures ++ procedures_in xs; order = append_assoc c.order (true ∷ []) (order_in xs) i; end = c.end })
+    all_gathered (with_item c (item.Static x)) xs
+    ∙ (λ i. record {
+      statics = append_assoc c.statics (x ∷ []) (statics_in xs) i;
+      procedures = c.procedures ++ procedures_in xs;
+      order =
+          append_assoc c.order (true ∷ []) (order_in xs) i;
+      end = c.end;
+    })
 all_gathered c (item.Procedure x ∷ xs) =
-    all_gathered (with_item c (item.Procedure x)) xs ∙ (λ i. record { statics = c.statics ++ statics_in xs; procedures = append_assoc c.procedures (x ∷ []) (procedures_in xs) i; order = append_assoc c.order (false ∷ []) (order_in xs) i; end = c.end })
+    all_gathered (with_item c (item.Procedure x)) xs
+    ∙ (λ i. record {
+      statics = c.statics ++ statics_in xs;
+      procedures = append_assoc c.procedures (x ∷ []) (procedures_in xs) i;
+      order =
+          append_assoc c.order (false ∷ []) (order_in xs) i;
+      end = c.end;
+    })
 
 module _ (text : List ℕ) where
   -- statics
@@ -111,7 +127,8 @@ module _ (text : List ℕ) where
       let m = n.3 in
       let a = m.1 in
       let c = a.3 in
-      let e : w ≡ h.0 ∷ (g.1 ++ (n.0 ∷ (a.0 ∷ (c.0 ++ c.1 ∷ [])))) = h.4 ∙ ap (λ u. h.0 ∷ u) (g.5 ∙ ap (λ u. g.1 ++ u) (n.4 ∙ ap (λ u. n.0 ∷ u) (a.4 ∙ ap (λ u. a.0 ∷ u) c.4))) in
+      let e : w ≡ h.0 ∷ (g.1 ++ (n.0 ∷ (a.0 ∷ (c.0 ++ c.1 ∷ [])))) = h.4
+      ∙ ap (λ u. h.0 ∷ u) (g.5 ∙ ap (λ u. g.1 ++ u) (n.4 ∙ ap (λ u. n.0 ∷ u) (a.4 ∙ ap (λ u. a.0 ∷ u) c.4))) in
       subst (IsStatic text w) (sym m.2) (subst (λ v. IsStatic text v (static_of h.0.place g.0 (word_of text n.0) m.0)) (sym e)
       (static (key_to key.Static h.0 h.2) g.3 (name_to text n.0 (word_of text n.0) n.2 refl) (mark_to mark.Assign a.0 a.2) c.2 (mark_to mark.Semicolon c.1 c.3)))
 
@@ -121,7 +138,20 @@ module _ (text : List ℕ) where
         t,
         ts ++ (u ∷ (a ∷ (us ++ k ∷ []))),
         key_from key.Static t i,
-        (s, ts, u ∷ (a ∷ (us ++ k ∷ [])), h, (u, a ∷ (us ++ k ∷ []), name_from text u n j, (y, (a, us ++ k ∷ [], mark_from mark.Assign a l, (us, k, v, mark_from mark.Semicolon k q, refl), refl), e), refl), refl),
+        (
+          s,
+          ts,
+          u ∷ (a ∷ (us ++ k ∷ [])),
+          h,
+          (
+            u,
+            a ∷ (us ++ k ∷ []),
+            name_from text u n j,
+            (y, (a, us ++ k ∷ [], mark_from mark.Assign a l, (us, k, v, mark_from mark.Semicolon k q, refl), refl), e),
+            refl,
+          ),
+          refl,
+        ),
         refl,
       )
 
@@ -166,14 +196,16 @@ module _ (text : List ℕ) where
   result_to : (w : List Token) (r : Place × Sort) → ResultLang w r → IsPlaced w r
   result_to w r (inl h) = placed h.0 sort.Void (no_result (key_to key.Void h.0 h.2)) h.1 w r h.3.0 h.4 h.3.1
   result_to w r (inr (inl h)) = placed h.0 (sort.Opaque (opaque_of h.0)) (some_result (opaque_type (opaque_to h.0 h.2))) h.1 w r h.3.0 h.4 h.3.1
-  result_to w r (inr (inr h)) = placed h.0 (sort.Class (word_of text h.0)) (some_result (class_type (name_to text h.0 (word_of text h.0) h.2 refl))) h.1 w r h.3.0 h.4 h.3.1
+  result_to w r (inr (inr h)) = placed h.0 (sort.Class (word_of text h.0)) (some_result (class_type (name_to text h.0 (word_of text h.0) h.2 refl))) h.1 w r
+      h.3.0 h.4 h.3.1
 
   result_from : (w : List Token) (r : Place × Sort) → IsPlaced w r → ResultLang w r
   result_from w r h = subst (λ u. ResultLang u r) (sym h.1) (subst (λ at. ResultLang (h.0 ∷ []) (at, r.1)) (sym h.3) (by h.0 r.1 h.2))
     where
       by : (t : Token) (s : Sort) → IsResult text (t ∷ []) s → ResultLang (t ∷ []) (t.place, s)
       by t s (no_result h) = inl (t, [], key_from key.Void t h, (refl, refl), refl)
-      by t s (some_result (opaque_type {o = o} h)) = inr (inl (t, [], opaque_from o t h, (refl, ap (λ (y : Opaque). (t.place, sort.Opaque y)) (opaque_same o t h)), refl))
+      by t s (some_result (opaque_type {o = o} h)) =
+          inr (inl (t, [], opaque_from o t h, (refl, ap (λ (y : Opaque). (t.place, sort.Opaque y)) (opaque_same o t h)), refl))
       by t s (some_result (class_type {w = n} h)) = inr (inr (t, [], name_from text t n h, (refl, ap (λ (v : Word). (t.place, sort.Class v)) h.word), refl))
 
   void_begins : (w : List Token) (r : Place × Sort) → VoidLang w r → Front (is_key key.Void) w
@@ -224,19 +256,34 @@ module _ (text : List ℕ) where
       let c = s.4.1 in
       let m = word_of text n.0 in
       let e : w ≡ q.0 ∷ n.0 ∷ (p.1 ++ (b.0 ∷ (s.1 ++ c.0 ∷ []))) =
-      h.5 ∙ ap (λ u. u ++ h.2) q.1 ∙ ap (λ u. q.0 ∷ u) (n.4 ∙ ap (λ u. n.0 ∷ u) (p.5 ∙ ap (λ u. p.1 ++ u) (b.4 ∙ ap (λ u. b.0 ∷ u) (s.5 ∙ ap (λ u. s.1 ++ u) c.1)))) in
+      h.5 ∙ ap (λ u. u ++ h.2) q.1 ∙ ap (λ u. q.0 ∷ u) (n.4
+      ∙ ap (λ u. n.0 ∷ u) (p.5 ∙ ap (λ u. p.1 ++ u) (b.4 ∙ ap (λ u. b.0 ∷ u) (s.5 ∙ ap (λ u. s.1 ++ u) c.1)))) in
       let f : z ≡ proc_of (q.0.place, h.0.1) m p.0 s.0 c.0.place = s.4.2 ∙ ap (proc_of h.0 m p.0 s.0) c.3 ∙ ap (λ at. proc_of (at, h.0.1) m p.0 s.0 c.0.place) q.3 in
       subst (IsProc text w) (sym f) (subst (λ u. IsProc text u (proc_of (q.0.place, h.0.1) m p.0 s.0 c.0.place)) (sym e)
       (procedure q.2 (name_to text n.0 m n.2 refl) p.3 (mark_to mark.Begin b.0 b.2) s.3 (mark_to mark.End c.0 c.2)))
 
   proc_from : (w : List Token) (z : Proc) → IsProc text w z → ProcLang w z
   proc_from w z (procedure {result = q} {name = t} {begin = b} {end = c} {n = n} {ts = ts} {us = us} {r = r} {ps = ps} {xs = xs} h i f j k l) =
-      let e : proc_of (q.place, r) n ps xs c.place ≡ proc_of (q.place, r) (word_of text t) ps xs c.place = ap (λ (m : Word). proc_of (q.place, r) m ps xs c.place) i.word in (
+      let e : proc_of (q.place, r) n ps xs c.place ≡ proc_of (q.place, r) (word_of text t) ps xs c.place =
+      ap (λ (m : Word). proc_of (q.place, r) m ps xs c.place) i.word in (
         (q.place, r),
         q ∷ [],
         t ∷ (ts ++ (b ∷ (us ++ c ∷ []))),
         (q, refl, h, refl),
-        (t, ts ++ (b ∷ (us ++ c ∷ [])), name_from text t n i, (ps, ts, b ∷ (us ++ c ∷ []), f, (b, us ++ c ∷ [], mark_from mark.Begin b j, (xs, us, c ∷ [], k, (c.place, (c, refl, mark_from mark.End c l, refl), e), refl), refl), refl), refl),
+        (
+          t,
+          ts ++ (b ∷ (us ++ c ∷ [])),
+          name_from text t n i,
+          (
+            ps,
+            ts,
+            b ∷ (us ++ c ∷ []),
+            f,
+            (b, us ++ c ∷ [], mark_from mark.Begin b j, (xs, us, c ∷ [], k, (c.place, (c, refl, mark_from mark.End c l, refl), e), refl), refl),
+            refl,
+          ),
+          refl,
+        ),
         refl,
       )
 
@@ -273,11 +320,15 @@ module _ (text : List ℕ) where
   items_to w [] h = subst (λ m. IsItems text m [] [] []) (sym h) no_items
   items_to w (x ∷ xs) h = subst (λ m. IsItems text m (statics_in (x ∷ xs)) (procedures_in (x ∷ xs)) (order_in (x ∷ xs))) (sym h.4) (by h.2 (items_to h.1 xs h.3))
     where
-      by : ItemLang h.0 x → IsItems text h.1 (statics_in xs) (procedures_in xs) (order_in xs) → IsItems text (h.0 ++ h.1) (statics_in (x ∷ xs)) (procedures_in (x ∷ xs)) (order_in (x ∷ xs))
-      by (inl l) more = subst (λ (y : Item). IsItems text (h.0 ++ h.1) (statics_in (y ∷ xs)) (procedures_in (y ∷ xs)) (order_in (y ∷ xs))) (sym l.2) (next_static l.1 more)
-      by (inr l) more = subst (λ (y : Item). IsItems text (h.0 ++ h.1) (statics_in (y ∷ xs)) (procedures_in (y ∷ xs)) (order_in (y ∷ xs))) (sym l.2) (next_procedure l.1 more)
+      by : ItemLang h.0 x → IsItems text h.1 (statics_in xs) (procedures_in xs) (order_in xs)
+          → IsItems text (h.0 ++ h.1) (statics_in (x ∷ xs)) (procedures_in (x ∷ xs)) (order_in (x ∷ xs))
+      by (inl l) more = subst (λ (y : Item). IsItems text (h.0 ++ h.1) (statics_in (y ∷ xs)) (procedures_in (y ∷ xs)) (order_in (y ∷ xs))) (sym l.2)
+          (next_static l.1 more)
+      by (inr l) more = subst (λ (y : Item). IsItems text (h.0 ++ h.1) (statics_in (y ∷ xs)) (procedures_in (y ∷ xs)) (order_in (y ∷ xs))) (sym l.2)
+          (next_procedure l.1 more)
 
-  items_from : (w : List Token) (xs : List Static) (ys : List Proc) (order : List Bool) → IsItems text w xs ys order → (is : List Item) × Star ItemLang w is × (xs ≡ statics_in is) × (ys ≡ procedures_in is) × (order ≡ order_in is)
+  items_from : (w : List Token) (xs : List Static) (ys : List Proc) (order : List Bool) → IsItems text w xs ys order → (is : List Item) × Star ItemLang w is
+      × (xs ≡ statics_in is) × (ys ≡ procedures_in is) × (order ≡ order_in is)
   items_from w xs ys order no_items = ([], refl, refl, refl, refl)
   items_from w xs ys order (next_static {ts = ts} {us = us} {x = x} {xs = zs} {ys = vs} {order = o} h more) =
       let a = items_from us zs vs o more in (item.Static x ∷ a.0, (ts, us, inl (x, h, refl), a.1, refl), ap (λ m. x ∷ m) a.2, a.3, ap (λ m. true ∷ m) a.4)
@@ -294,7 +345,8 @@ module _ (text : List ℕ) where
   client_from : (end : Place) (w : List Token) (z : Client) → IsClient text end w z → ClientLang end w z
   client_from end w z (client {xs = xs} {ys = ys} {order = order} h) =
       let a = items_from w xs ys order h in
-      let e : ◌≡◌ {A = Client} (record { statics = xs; procedures = ys; order = order; end = end }) (joined (empty_client end) a.0) = λ i. record { statics = a.2 i; procedures = a.3 i; order = a.4 i; end = end } in
+      let e : ◌≡◌ {A = Client} (record { statics = xs; procedures = ys; order = order; end = end }) (joined (empty_client end) a.0) =
+      λ i. record { statics = a.2 i; procedures = a.3 i; order = a.4 i; end = end } in
       (a.0, a.1, e ∙ sym (all_gathered (empty_client end) a.0))
 
   pub client_within : (d : ℕ) (end : Place) → ReadsWithin (client_at text d end) (IsClient text end) ClientGoes (suc d)

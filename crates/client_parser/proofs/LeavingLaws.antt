@@ -59,12 +59,14 @@ module _ (text : List ℕ) where
   break_to : (w : List Token) (x : Stmt) → BreakLang w x → IsStmt text w x
   break_to w x h =
       let e = both_tokens w h.1 h.0 (stmt.Break h.0.place) x h.3 h.4 in
-      subst (IsStmt text w) (sym h.3.3.1) (subst (λ m. IsStmt text m (stmt.Break h.0.place)) (sym e) (break (key_to key.Break h.0 h.2) (mark_to mark.Semicolon h.3.0 h.3.2)))
+      subst (IsStmt text w) (sym h.3.3.1) (subst (λ m. IsStmt text m (stmt.Break h.0.place)) (sym e)
+      (break (key_to key.Break h.0 h.2) (mark_to mark.Semicolon h.3.0 h.3.2)))
 
   continue_to : (w : List Token) (x : Stmt) → ContinueLang w x → IsStmt text w x
   continue_to w x h =
       let e = both_tokens w h.1 h.0 (stmt.Continue h.0.place) x h.3 h.4 in
-      subst (IsStmt text w) (sym h.3.3.1) (subst (λ m. IsStmt text m (stmt.Continue h.0.place)) (sym e) (continue (key_to key.Continue h.0 h.2) (mark_to mark.Semicolon h.3.0 h.3.2)))
+      subst (IsStmt text w) (sym h.3.3.1) (subst (λ m. IsStmt text m (stmt.Continue h.0.place)) (sym e)
+      (continue (key_to key.Continue h.0 h.2) (mark_to mark.Semicolon h.3.0 h.3.2)))
 
   -- returns, behind their keyword and with it
   abbrev ValueTail : Place → Lang Return
@@ -82,16 +84,20 @@ module _ (text : List ℕ) where
   return_tail_within : (at : Place) (G : Kind → Bool) (d : ℕ) → ReadsWithin (return_behind text at) (ReturnTail at) G d
   return_tail_within at G d = two_ways_within (is_mark mark.Semicolon) arg_starts
       (led_starts (is_mark mark.Semicolon) nothing_of (λ _. End (record { place = at; value = None }))) (value_begins at) arg_no_semicolon
-      (led_within (is_mark mark.Semicolon) nothing_of (kind.Mark mark.Semicolon) tt (mark_flat mark.Semicolon (λ b. refl)) (λ _. got_within (record { place = at; value = None }) G d))
-      (mapped_within (λ n. record { place = at; value = Some n }) (closed_within mark.Semicolon G (mark_flat mark.Semicolon (λ b. refl)) (λ g. g) (arg_within text none d)))
+      (led_within (is_mark mark.Semicolon) nothing_of (kind.Mark mark.Semicolon) tt (mark_flat mark.Semicolon (λ b. refl))
+      (λ _. got_within (record { place = at; value = None }) G d))
+      (mapped_within (λ n. record { place = at; value = Some n }) (closed_within mark.Semicolon G (mark_flat mark.Semicolon (λ b. refl)) (λ g. g)
+      (arg_within text none d)))
 
   written : (w : List Token) (t : Token) (u : List Token) (r : Return) → Is (is_key key.Return t.kind) → w ≡ t ∷ u → ReturnTail t.place u r → IsReturn text w r
   written w t u r i e (inl l) =
       let both = both_tokens w u t (record { place = t.place; value = None }) r l e in
-      subst (IsReturn text w) (sym l.3.1) (subst (λ m. IsReturn text m (record { place = t.place; value = None })) (sym both) (bare_return (key_to key.Return t i) (mark_to mark.Semicolon l.0 l.2)))
+      subst (IsReturn text w) (sym l.3.1) (subst (λ m. IsReturn text m (record { place = t.place; value = None })) (sym both)
+      (bare_return (key_to key.Return t i) (mark_to mark.Semicolon l.0 l.2)))
   written w t u r i e (inr l) =
       let c = l.1 in
-      subst (IsReturn text w) (sym l.2) (subst (λ m. IsReturn text m (record { place = t.place; value = Some l.0 })) (sym (e ∙ ap (λ v. t ∷ v) c.4)) (with_return (key_to key.Return t i) c.2 (mark_to mark.Semicolon c.1 c.3)))
+      subst (IsReturn text w) (sym l.2) (subst (λ m. IsReturn text m (record { place = t.place; value = Some l.0 })) (sym (e ∙ ap (λ v. t ∷ v) c.4))
+      (with_return (key_to key.Return t i) c.2 (mark_to mark.Semicolon c.1 c.3)))
 
   return_to : (w : List Token) (x : Stmt) → ReturnLang w x → IsStmt text w x
   return_to w x h = subst (IsStmt text w) (sym h.3.2) (return (written w h.0 h.1 h.3.0 h.2 h.4 h.3.1))
@@ -116,12 +122,16 @@ module _ (text : List ℕ) where
   break_begins = led_starts (is_key key.Break) place_of (λ at. Ended (stmt.Break at))
 
   no_continue_begins : (w : List Token) (x : Stmt) → NoContinueLang w x → Front no_continue_starts w
-  no_continue_begins w x (inl h) = front_less (is_key key.Return) no_continue_starts (λ k f. or_left (is_key key.Return k) (simple_starts k) f) w (return_begins w x h)
-  no_continue_begins w x (inr h) = front_less simple_starts no_continue_starts (λ k f. or_right (is_key key.Return k) (simple_starts k) f) w (simple_begins text w x h)
+  no_continue_begins w x (inl h) =
+      front_less (is_key key.Return) no_continue_starts (λ k f. or_left (is_key key.Return k) (simple_starts k) f) w (return_begins w x h)
+  no_continue_begins w x (inr h) =
+      front_less simple_starts no_continue_starts (λ k f. or_right (is_key key.Return k) (simple_starts k) f) w (simple_begins text w x h)
 
   no_break_begins : (w : List Token) (x : Stmt) → NoBreakLang w x → Front no_break_starts w
-  no_break_begins w x (inl h) = front_less (is_key key.Continue) no_break_starts (λ k f. or_left (is_key key.Continue k) (no_continue_starts k) f) w (continue_begins w x h)
-  no_break_begins w x (inr h) = front_less no_continue_starts no_break_starts (λ k f. or_right (is_key key.Continue k) (no_continue_starts k) f) w (no_continue_begins w x h)
+  no_break_begins w x (inl h) = front_less (is_key key.Continue) no_break_starts (λ k f. or_left (is_key key.Continue k) (no_continue_starts k) f) w
+      (continue_begins w x h)
+  no_break_begins w x (inr h) = front_less no_continue_starts no_break_starts (λ k f. or_right (is_key key.Continue k) (no_continue_starts k) f) w
+      (no_continue_begins w x h)
 
   pub no_while_begins : (w : List Token) (x : Stmt) → NoWhileLang w x → Front no_while_starts w
   no_while_begins w x (inl h) = front_less (is_key key.Break) no_while_starts (λ k f. or_left (is_key key.Break k) (no_break_starts k) f) w (break_begins w x h)

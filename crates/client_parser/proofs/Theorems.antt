@@ -24,8 +24,10 @@ one_client text end ts =
     answered.one_spelling (client_at text (length ts) end) (IsClient text end) ClientGoes (suc (length ts)) ts within.reads within.bound (omega arith)
 
 -- from the reading to what the grammar says
-pub found : (text : List ℕ) (end : Place) (ts : List Token) (r : Result Client ReadFault) → Shallow ts → GivesWhole r (whole_at (client_at text 64 end) ts) → FindsTree IsClient text end ts r
-found = answered.found IsClient (λ text. client_at text 64) ClientGoes (λ text end. (client_within text 64 end).reads) (λ text end. (client_within text 64 end).bound)
+pub found : (text : List ℕ) (end : Place) (ts : List Token) (r : Result Client ReadFault) → Shallow ts → GivesWhole r (whole_at (client_at text 64 end) ts)
+    → FindsTree IsClient text end ts r
+found = answered.found IsClient (λ text. client_at text 64) ClientGoes (λ text end. (client_within text 64 end).reads)
+    (λ text end. (client_within text 64 end).bound)
 
 pub too_deep : (text : List ℕ) (end : Place) (ts : List Token) (e : ReadFault) → Nests ts (Err e) → FindsTree IsClient text end ts (Err e)
 too_deep = answered.too_deep IsClient
@@ -37,8 +39,10 @@ no_tokens = answered.no_tokens IsClient
 pub tree_answers : (text : List ℕ) (x : Tokens) (c : Client) → lex.Answers text (Ok x) → FindsTree IsClient text x.end x.list (Ok c) → Answers IsClient text (Ok c)
 tree_answers = answered.tree_answers IsClient
 
-pub fault_answers : (text : List ℕ) (x : Tokens) (e : ReadFault) → lex.Answers text (Ok x) → FindsTree IsClient text x.end x.list (Err e) → Answers IsClient text (Err (placed x e))
+pub fault_answers : (text : List ℕ) (x : Tokens) (e : ReadFault) → lex.Answers text (Ok x) → FindsTree IsClient text x.end x.list (Err e)
+    → Answers IsClient text (Err (placed x e))
 fault_answers = answered.fault_answers IsClient
 
 pub one_spelled : OneAnswer IsClient
-one_spelled = answered.one_answer IsClient (λ text. client_at text 64) ClientGoes (λ text end. (client_within text 64 end).reads) (λ text end. (client_within text 64 end).bound)
+one_spelled = answered.one_answer IsClient (λ text. client_at text 64) ClientGoes (λ text end. (client_within text 64 end).reads)
+    (λ text end. (client_within text 64 end).bound)

@@ -9,7 +9,8 @@ use Rattle.easl_model.specs.declared.token.Kind.TheVariants as kind
 use Rattle.easl_model.specs.declared.token.Mark.TheVariants as mark
 use Rattle.easl_model.specs.declared.token.Token.{Token}
 use Rattle.easl_model.specs.declared.tree.Word.{Word}
-use Rattle.client_model.specs.Grammar.{IsArg, name_arg, literal_arg, IsArgs, args, IsNew, new, IsComponent, component, IsCall, call, IsInitial, copy_initial, new_initial, component_initial, IsRhs, initial_rhs, call_rhs}
+use Rattle.client_model.specs.Grammar.{IsArg, name_arg, literal_arg, IsArgs, args, IsNew, new, IsComponent, component, IsCall, call, IsInitial, copy_initial}
+use Rattle.client_model.specs.Grammar.{new_initial, component_initial, IsRhs, initial_rhs, call_rhs}
 use Rattle.client_model.specs.declared.tree.Call.{Call}
 use Rattle.client_model.specs.declared.tree.Component.{Component}
 use Rattle.client_model.specs.declared.tree.New.{New}
@@ -20,9 +21,11 @@ use Rattle.cv_read.proofs.Laws.{Lang, Is, none, either, Avoids, Front, Sub, Apar
 use Rattle.cv_read.proofs.Levels.{mark_flat, key_flat, name_flat, literal_flat}
 use Rattle.cv_read.proofs.Repeats.{or_left, or_right}
 use Rattle.cv_read.proofs.Tested.{mark_to, mark_from, key_to, key_from, name_to, name_from, literal_to, literal_from}
-use Rattle.cv_read.proofs.Within.{ReadsWithin, take_within, mapped_within, respell_within, led_within, two_ways_within, choice_within, or_nothing_within, parens_within, listed_within, shallower}
+use Rattle.cv_read.proofs.Within.{ReadsWithin, take_within, mapped_within, respell_within, led_within, two_ways_within, choice_within, or_nothing_within}
+use Rattle.cv_read.proofs.Within.{parens_within, listed_within, shallower}
 use Rattle.cv_read.proofs.Words.{Led, Parens, led_starts, front_shuns}
-use Rattle.client_parser.specs.Reading.{arg_starts, arg_at, args_at, component_behind, component_at, new_behind, new_at, call_value, initial_behind, rhs_behind, value_by, initial_at, rhs_at}
+use Rattle.client_parser.specs.Reading.{arg_starts, arg_at, args_at, component_behind, component_at, new_behind, new_at, call_value, initial_behind}
+use Rattle.client_parser.specs.Reading.{rhs_behind, value_by, initial_at, rhs_at}
 
 -- what an initial value and any value take greedily
 abbrev pub InitialGoes : Kind → Bool
@@ -50,8 +53,10 @@ module _ (text : List ℕ) where
   ArgLang = Or (One is_literal (word_of text)) (One is_name (word_of text))
 
   arg_to : (w : List Token) (x : Word) → ArgLang w x → IsArg text w x
-  arg_to w x (inl h) = subst (IsArg text w) (sym h.3) (subst (λ m. IsArg text m (word_of text h.0)) (sym h.1) (literal_arg (literal_to text h.0 (word_of text h.0) h.2 refl)))
-  arg_to w x (inr h) = subst (IsArg text w) (sym h.3) (subst (λ m. IsArg text m (word_of text h.0)) (sym h.1) (name_arg (name_to text h.0 (word_of text h.0) h.2 refl)))
+  arg_to w x (inl h) = subst (IsArg text w) (sym h.3) (subst (λ m. IsArg text m (word_of text h.0)) (sym h.1)
+      (literal_arg (literal_to text h.0 (word_of text h.0) h.2 refl)))
+  arg_to w x (inr h) = subst (IsArg text w) (sym h.3) (subst (λ m. IsArg text m (word_of text h.0)) (sym h.1)
+      (name_arg (name_to text h.0 (word_of text h.0) h.2 refl)))
 
   arg_from : (w : List Token) (x : Word) → IsArg text w x → ArgLang w x
   arg_from w x (name_arg {t = t} i) = inr (t, refl, name_from text t x i, i.word)
@@ -89,7 +94,8 @@ module _ (text : List ℕ) where
 
   -- calls and constructions, each behind its first token
   abbrev pub ComponentTail : Word → Lang Component
-  ComponentTail r = Led (is_mark mark.Dot) nothing_of (λ _. Led is_name (word_of text) (λ m. Mapped (IsArgs text) (λ ws. record { receiver = r; method = m; args = ws })))
+  ComponentTail r = Led (is_mark mark.Dot) nothing_of (λ _. Led is_name (word_of text)
+      (λ m. Mapped (IsArgs text) (λ ws. record { receiver = r; method = m; args = ws })))
 
   abbrev pub CallTail : Word → Lang Rhs
   CallTail p = Mapped (IsArgs text) (λ ws. rhs.Call (record { procedure = p; args = ws }))
@@ -106,7 +112,8 @@ module _ (text : List ℕ) where
   call_tail_within p G d = mapped_within (λ ws. rhs.Call (record { procedure = p; args = ws })) (args_within G d)
 
   pub new_tail_within : (at : Place) (G : Kind → Bool) (d : ℕ) → ReadsWithin (new_behind text at) (NewTail at) G d
-  new_tail_within at G d = led_within is_name (word_of text) kind.Name tt name_flat (λ c. mapped_within (λ ws. rhs.New (record { place = at; class = c; args = ws })) (args_within G d))
+  new_tail_within at G d = led_within is_name (word_of text) kind.Name tt name_flat
+      (λ c. mapped_within (λ ws. rhs.New (record { place = at; class = c; args = ws })) (args_within G d))
 
   pub component_to : (t : Token) → Is (is_name t.kind) → (u : List Token) (x : Component) → ComponentTail (word_of text t) u x → IsComponent text (t ∷ u) x
   component_to t i u x h =
@@ -122,7 +129,9 @@ module _ (text : List ℕ) where
 
   pub component_from : (w : List Token) (x : Component) → IsComponent text w x → Led is_name (word_of text) ComponentTail w x
   component_from w x (component {receiver = t} {dot = k} {method = u} {r = r} {m = m} {ts = ts} {ws = ws} i j l h) =
-      let e : ◌≡◌ {A = Component} (record { receiver = r; method = m; args = ws }) (record { receiver = word_of text t; method = word_of text u; args = ws }) = ap (λ (v : Word). record { receiver = v; method = m; args = ws }) i.word ∙ ap (λ (v : Word). record { receiver = word_of text t; method = v; args = ws }) l.word in
+      let e : ◌≡◌ {A = Component} (record { receiver = r; method = m; args = ws }) (record { receiver = word_of text t; method = word_of text u; args = ws })
+      = ap (λ (v : Word). record { receiver = v; method = m; args = ws }) i.word
+      ∙ ap (λ (v : Word). record { receiver = word_of text t; method = v; args = ws }) l.word in
       (t, k ∷ u ∷ ts, name_from text t r i, (k, u ∷ ts, mark_from mark.Dot k j, (u, ts, name_from text u m l, (ws, h, e), refl), refl), refl)
 
   pub component_within : (G : Kind → Bool) (d : ℕ) → ReadsWithin (component_at text) (IsComponent text) G d
@@ -138,12 +147,14 @@ module _ (text : List ℕ) where
   pub call_tail_begins : (p : Word) (w : List Token) (x : Rhs) → CallTail p w x → Front (is_mark mark.Open) w
   call_tail_begins p w x h = args_begins w h.0 h.1
 
-  pub call_to : (t : Token) → Is (is_name t.kind) → (u : List Token) (x : Rhs) → CallTail (word_of text t) u x → (c : Call) × IsCall text (t ∷ u) c × (x ≡ rhs.Call c)
+  pub call_to : (t : Token) → Is (is_name t.kind) → (u : List Token) (x : Rhs) → CallTail (word_of text t) u x → (c : Call) × IsCall text (t ∷ u) c
+      × (x ≡ rhs.Call c)
   call_to t i u x h = (record { procedure = word_of text t; args = h.0 }, call (name_to text t (word_of text t) i refl) h.1, h.2)
 
   pub call_from : (w : List Token) (c : Call) → IsCall text w c → Led is_name (word_of text) CallTail w (rhs.Call c)
   call_from w c (call {procedure = t} {p = p} {ts = ts} {ws = ws} i h) =
-      let e : ◌≡◌ {A = Rhs} (rhs.Call (record { procedure = p; args = ws })) (rhs.Call (record { procedure = word_of text t; args = ws })) = ap (λ (v : Word). rhs.Call (record { procedure = v; args = ws })) i.word in
+      let e : ◌≡◌ {A = Rhs} (rhs.Call (record { procedure = p; args = ws })) (rhs.Call (record { procedure = word_of text t; args = ws })) =
+      ap (λ (v : Word). rhs.Call (record { procedure = v; args = ws })) i.word in
       (t, ts, name_from text t p i, (ws, h, e), refl)
 
   abbrev pub NewLang : Lang Rhs
@@ -161,7 +172,9 @@ module _ (text : List ℕ) where
 
   pub new_from : (w : List Token) (n : New) → IsNew text w n → NewLang w (rhs.New n)
   new_from w n (new {keyword = t} {class = u} {c = c} {ts = ts} {ws = ws} i j h) =
-      let e : ◌≡◌ {A = Rhs} (rhs.New (record { place = t.place; class = c; args = ws })) (rhs.New (record { place = t.place; class = word_of text u; args = ws })) = ap (λ (v : Word). rhs.New (record { place = t.place; class = v; args = ws })) j.word in
+      let e : ◌≡◌ {A = Rhs} (rhs.New (record { place = t.place; class = c; args = ws }))
+      (rhs.New (record { place = t.place; class = word_of text u; args = ws })) =
+      ap (λ (v : Word). rhs.New (record { place = t.place; class = v; args = ws })) j.word in
       (t, u ∷ ts, key_from key.New t i, (u, ts, name_from text u c j, (ws, h, e), refl), refl)
 
   pub new_within : (G : Kind → Bool) (d : ℕ) → ReadsWithin (new_at text) NewLang G d
@@ -184,8 +197,10 @@ module _ (text : List ℕ) where
   plain_begins Tail w x (inl h) = front_less is_literal arg_starts (λ k f. or_right (is_name k) (is_literal k) f) w (literal_value_begins w x h)
   plain_begins Tail w x (inr h) = front_less is_name arg_starts (λ k f. or_left (is_name k) (is_literal k) f) w (led_starts is_name (word_of text) Tail w x h)
 
-  value_within : (behind : Word → List Token → Read Rhs) (Tail : Word → Lang Rhs) (G : Kind → Bool) (d : ℕ) → ((w : Word) → ReadsWithin (behind w) (Tail w) G d) → ReadsWithin (value_by text behind) (ValueLang Tail) G d
-  value_within behind Tail G d tail = two_ways_within (is_key key.New) arg_starts (led_starts (is_key key.New) place_of NewTail) (plain_begins Tail) plain_no_new (new_within G d)
+  value_within : (behind : Word → List Token → Read Rhs) (Tail : Word → Lang Rhs) (G : Kind → Bool) (d : ℕ)
+      → ((w : Word) → ReadsWithin (behind w) (Tail w) G d) → ReadsWithin (value_by text behind) (ValueLang Tail) G d
+  value_within behind Tail G d tail =
+      two_ways_within (is_key key.New) arg_starts (led_starts (is_key key.New) place_of NewTail) (plain_begins Tail) plain_no_new (new_within G d)
       (two_ways_within is_literal is_name literal_value_begins (led_starts is_name (word_of text) Tail) name_no_literal
       (mapped_within rhs.Copy (take_within is_literal (word_of text) G d kind.Number tt literal_flat))
       (led_within is_name (word_of text) kind.Name tt name_flat tail))
@@ -196,7 +211,9 @@ module _ (text : List ℕ) where
 
   initial_tail_to : (t : Token) → Is (is_name t.kind) → (u : List Token) (x : Rhs) → InitialTail (word_of text t) u x → IsInitial text (t ∷ u) x
   initial_tail_to t i u x (inl h) = subst (IsInitial text (t ∷ u)) (sym h.2) (component_initial (component_to t i u h.0 h.1))
-  initial_tail_to t i u x (inr h) = subst (IsInitial text (t ∷ u)) (sym h.1) (subst (λ m. IsInitial text (t ∷ m) (rhs.Copy (word_of text t))) (sym h.0) (copy_initial (name_arg (name_to text t (word_of text t) i refl))))
+  initial_tail_to t i u x (inr h) =
+      subst (IsInitial text (t ∷ u)) (sym h.1) (subst (λ m. IsInitial text (t ∷ m) (rhs.Copy (word_of text t))) (sym h.0)
+      (copy_initial (name_arg (name_to text t (word_of text t) i refl))))
 
   initial_to : (w : List Token) (x : Rhs) → ValueLang InitialTail w x → IsInitial text w x
   initial_to w x (inl h) = let n = new_to w x h in subst (IsInitial text w) (sym n.2) (new_initial n.1)
@@ -213,11 +230,13 @@ module _ (text : List ℕ) where
   initial_from w x (component_initial {x = c} h) = let l = component_from w c h in inr (inr (l.0, l.1, l.2, inl (c, l.3, refl), l.4))
 
   initial_tail_within : (w : Word) (G : Kind → Bool) (d : ℕ) → Sub (is_mark mark.Dot) G → ReadsWithin (initial_behind text w) (InitialTail w) G d
-  initial_tail_within w G d sub = or_nothing_within (is_mark mark.Dot) (rhs.Copy w) (component_tail_begins w) sub (mapped_within rhs.Component (component_tail_within w G d))
+  initial_tail_within w G d sub =
+      or_nothing_within (is_mark mark.Dot) (rhs.Copy w) (component_tail_begins w) sub (mapped_within rhs.Component (component_tail_within w G d))
 
   pub initial_within : (d : ℕ) → ReadsWithin (initial_at text) (IsInitial text) InitialGoes d
   unfolding initial_at
-  initial_within d = respell_within initial_to initial_from (value_within (initial_behind text) InitialTail InitialGoes d (λ w. initial_tail_within w InitialGoes d (λ k f. f)))
+  initial_within d = respell_within initial_to initial_from (value_within (initial_behind text) InitialTail InitialGoes d
+      (λ w. initial_tail_within w InitialGoes d (λ k f. f)))
 
   -- all values
   abbrev RhsTail : Word → Lang Rhs

@@ -20,7 +20,8 @@ use Rattle.client_model.specs.declared.tree.Stmt.{Stmt}
 use Rattle.client_model.specs.declared.tree.Stmt.TheVariants as stmt
 use Rattle.client_model.specs.declared.tree.Test.{Test}
 use Rattle.client_model.specs.declared.tree.Test.TheVariants as test
-use Rattle.cv_read.specs.Read.{Read, Got, Deep, ◌>>=◌, choose, is_mark, is_key, is_name, take_at, mark_at, key_place_at, mark_place_at, name_at, literal_at, behind_mark, behind_key, before_mark, step_at, items_at, listed_at, parens_at}
+use Rattle.cv_read.specs.Read.{Read, Got, Deep, ◌>>=◌, choose, is_mark, is_key, is_name, take_at, mark_at, key_place_at, mark_place_at, name_at, literal_at}
+use Rattle.cv_read.specs.Read.{behind_mark, behind_key, before_mark, step_at, items_at, listed_at, parens_at}
 use Rattle.cv_read.specs.Types.{is_opaque, placed_opaque, type_at, type_starts, params_at}
 use Rattle.client_parser.specs.declared.items.Item.{Item}
 use Rattle.client_parser.specs.declared.items.Item.TheVariants as item
@@ -37,7 +38,8 @@ args_at text = parens_at (listed_at arg_starts (arg_at text))
 
 -- a call of a component behind its receiver
 unfoldable pub component_behind : List ℕ → Word → List Token → Read Component
-component_behind text r ts = mark_at mark.Dot ts >>= λ _ us. name_at text us >>= λ m vs. args_at text vs >>= λ ws zs. Got (record { receiver = r; method = m; args = ws }) zs
+component_behind text r ts = mark_at mark.Dot ts >>= λ _ us. name_at text us >>= λ m vs. args_at text vs >>= λ ws zs. Got
+    (record { receiver = r; method = m; args = ws }) zs
 
 abbrev pub component_at : List ℕ → List Token → Read Component
 component_at text ts = name_at text ts >>= λ r us. component_behind text r us
@@ -246,7 +248,8 @@ initialised_at text = behind_mark mark.Assign (before_mark mark.Semicolon (initi
 
 -- a static behind its keyword
 unfoldable pub static_behind : List ℕ → Place → List Token → Read Static
-static_behind text at ts = type_at text ts >>= λ s us. name_at text us >>= λ n vs. initialised_at text vs >>= λ x ws. Got (record { place = at; sort = s; name = n; value = x }) ws
+static_behind text at ts = type_at text ts >>= λ s us. name_at text us >>= λ n vs. initialised_at text vs >>= λ x ws. Got
+    (record { place = at; sort = s; name = n; value = x }) ws
 
 abbrev pub static_at : List ℕ → List Token → Read Static
 static_at text ts = key_place_at key.Static ts >>= λ at us. static_behind text at us
@@ -268,7 +271,8 @@ abbrev pub result_at : List ℕ → List Token → Read (Place × Sort)
 result_at text = choose (is_key key.Void) void_result_at (some_result_at text)
 
 unfoldable pub proc_at : List ℕ → ℕ → List Token → Read Proc
-proc_at text d ts = result_at text ts >>= λ r us. name_at text us >>= λ n vs. params_at text vs >>= λ ps ws. mark_at mark.Begin ws >>= λ _ xs. stmts_at text d xs >>= λ ss ys. mark_place_at mark.End ys >>= λ e zs.
+proc_at text d ts = result_at text ts >>= λ r us. name_at text us >>= λ n vs. params_at text vs >>= λ ps ws. mark_at mark.Begin ws >>= λ _ xs. stmts_at text d
+    xs >>= λ ss ys. mark_place_at mark.End ys >>= λ e zs.
     Got (record { place = r.0; result = r.1; name = n; params = ps; body = ss; end = e }) zs
 
 -- items

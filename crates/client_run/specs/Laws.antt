@@ -1,18 +1,32 @@
--- Laws on runs.
-use Rattle.std.specs.Prelude.{◌≡◌, ◌≢◌, ℕ, ◌≤◌, Bool, List}
-use Rattle.client_model.specs.Program.{Program}
-use Rattle.client_run.specs.Run.{Cut, IsRun, Outcome}
+-- Laws on the definitions.
+use Rattle.std.specs.Prelude.{ℕ, Bool, List}
+use Rattle.client_run.specs.Graph.{AreAgreed}
+use Rattle.client_run.specs.Places.{Comes, beginning}
+use Rattle.client_model.specs.Checked.{without_sets}
+use Rattle.client_model.specs.CheckedForm.{ClientForm}
+use Rattle.client_model.specs.Fits.{Fits}
+use Rattle.client_steps.specs.Runs.{IsRun, Outcome}
 use Rattle.easl_model.specs.Form.{Form}
 
--- a run comes to this outcome, and no run to another
-pub record ComesTo (form : Form) (program : Program) (choices : List Bool) (budget : ℕ) (o : Outcome) : Type 0 where
-  pub run : IsRun form program choices budget o
-  pub only : (p : Outcome) → IsRun form program choices budget p → p ≡ o
+-- a run from point to point is the run by statement trees, and the other way round
+pub record AreRuns (form : Form) (client : ClientForm) (choices : List Bool) (budget : ℕ) (o : Outcome) : Type 0 where
+  pub trees : Comes form client (beginning client choices budget) o → IsRun form client choices budget o
+  pub points : IsRun form client choices budget o → Comes form client (beginning client choices budget) o
 
--- for each program, choices and budget there is exactly one outcome
-abbrev pub RunsOnce : Type 0
-RunsOnce = (form : Form) (program : Program) (choices : List Bool) (budget : ℕ) → (o : Outcome) × ComesTo form program choices budget o
+-- where the points go on as the statements do
+abbrev pub PointsAreTrees : Type 0
+PointsAreTrees = (form : Form) (client : ClientForm) (choices : List Bool) (budget : ℕ) (o : Outcome) → AreAgreed client →
+    AreRuns form client choices budget o
 
--- a greater budget keeps every outcome but that of a run that is cut
-abbrev pub MoreKeeps : Type 0
-MoreKeeps = (form : Form) (program : Program) (choices : List Bool) (less more : ℕ) (o : Outcome) → IsRun form program choices less o → o ≢ Cut → less ≤ more → IsRun form program choices more o
+-- in the checked form of a client that is well-formed, the points go on as the statements do
+abbrev pub FormsAgree : Type 0
+FormsAgree = (form : Form) (client : ClientForm) → Fits form client → AreAgreed client
+
+-- the runs of a checked form are those of the form without the names that are set
+pub record AreSameRuns (form : Form) (client : ClientForm) (choices : List Bool) (budget : ℕ) (o : Outcome) : Type 0 where
+  pub with_sets : IsRun form (without_sets client) choices budget o → IsRun form client choices budget o
+  pub without : IsRun form client choices budget o → IsRun form (without_sets client) choices budget o
+
+abbrev pub SetsAreNotRead : Type 0
+SetsAreNotRead = (form : Form) (client : ClientForm) (choices : List Bool) (budget : ℕ) (o : Outcome) → Fits form client →
+    AreSameRuns form client choices budget o

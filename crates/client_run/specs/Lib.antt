@@ -1,6 +1,11 @@
 pub mod Answers
+pub mod Code
 pub mod Deeds
+pub mod Fitting
+pub mod Graph
+pub mod Kept
 pub mod Laws
-pub mod Machine
-pub mod Run
+pub mod Places
+pub mod Returns
 pub mod Straight
+pub mod Turns

@@ -1,39 +1,40 @@
--- Straight runs: points in a row, with no choice and no count of units.
-use Rattle.std.specs.Prelude.{◌≡◌, ℕ, suc, ◌<◌, List, [], ◌∷◌, Option, Some, None, IfSome, length, slice_get}
-use Rattle.client_model.specs.Nodes.{Trees, Step, end, tree_of, trees, ◌▹◌}
-use Rattle.client_model.specs.declared.form.CallSite.{CallSite}
-use Rattle.client_model.specs.declared.form.Point.{Point}
-use Rattle.client_model.specs.Program.{Program}
-use Rattle.client_run.specs.Run.{Deed, Broke, Did, IsRun, IsSafe, Fails, State, done}
+-- Straight clients: no statement calls a procedure or tests, so that a run takes no choice.
+use Rattle.std.specs.Prelude.{ℕ, ◌<◌, Bool, true, false, not, ◌&&◌, ◌==◌, List, [], Option, Some, None, length}
+use Rattle.std.specs.List.{list_any}
+use Rattle.std.specs.Option.{option_map_or}
+use Rattle.client_run.specs.declared.runner.Outcome.{Outcome}
+use Rattle.client_run.specs.declared.runner.Outcome.TheVariants as ending
 use Rattle.client_run.specs.declared.straight.Failure.{Failure}
-use Rattle.easl_heap.specs.Body.{argument_count}
+use Rattle.client_model.specs.declared.form.Point.{Point}
+use Rattle.client_model.specs.declared.form.Point.TheVariants as point
+use Rattle.client_model.specs.CheckedForm.{ClientForm}
+use Rattle.client_steps.specs.Runs.{Fails, IsRun, IsSafe}
+use Rattle.client_steps.specs.States.{procedure_at}
 use Rattle.easl_model.specs.Form.{Form}
-use Rattle.std.specs.Prelude.{map}
 
--- the points from here on, in a row
-abbrev pub steps_from : ℕ → List Point → Trees
-steps_from number [] = end
-steps_from number (x ∷ xs) = Step number ▹ steps_from (suc number) xs
+-- a procedure is called there, or the outcome of a test is done
+abbrev pub calls_or_tests : Point → Bool
+calls_or_tests (point.Call target procedure args place) = true
+calls_or_tests (point.Branch call) = true
+calls_or_tests (point.Copy target source) = false
+calls_or_tests (point.Component target call) = false
+calls_or_tests point.Nothing = false
 
--- no statement holds others
-abbrev pub IsStraight : Program → Type 0
-IsStraight program = trees (map tree_of program.shape) ≡ steps_from 0 program.points
+-- the points of the first procedure of the text
+abbrev pub first_points : ClientForm → List Point
+first_points client = option_map_or (λ x. x.points) (procedure_at client 1) []
 
--- the method is there, and takes as many arguments
-pub record CallFits (form : Form) (site : CallSite) : Type 0 where
-  pub there : site.method < length form.methods
-  pub args : IfSome (slice_get form.methods site.method) (λ m. length site.args ≡ argument_count m)
+-- the client has no static, no procedure but `main` beside the start, no procedure call in it, and no test
+abbrev pub is_straight : ClientForm → Bool
+is_straight client = (length client.statics == 0) && ((length client.procedures == 2) && not (list_any calls_or_tests (first_points client)))
 
-abbrev pub failure_behind : (State → Option Failure) → Deed → Option Failure
-failure_behind rest (Broke call clause) = Some (record { call = call; clause = clause })
-failure_behind rest (Did s steps) = rest s
+-- the failure that a run ends in, if it does
+abbrev pub failure_of : Outcome → Option Failure
+failure_of (ending.Fails call clause left) = Some (record { call = call; clause = clause })
+failure_of (ending.Ends left) = None
+failure_of ending.Short = None
 
--- where the points in a row break a clause from this state on
-abbrev pub failure_from : Form → Program → List Point → State → Option Failure
-failure_from form program [] s = None
-failure_from form program (x ∷ xs) s = failure_behind (failure_from form program xs) (done form program x s)
-
--- what is found of a straight run: it is safe, or it fails with no choices taken
-abbrev pub Finds : Form → Program → Option Failure → Type 0
-Finds form program None = IsSafe form program
-Finds form program (Some f) = (f.call < length program.calls) × ((budget : ℕ) × IsRun form program [] budget (Fails f.call f.clause 0))
+-- what is found of a straight client: it is safe, or it fails on no choices, at a call that is there
+abbrev pub Finds : Form → ClientForm → Option Failure → Type 0
+Finds form client None = IsSafe form client
+Finds form client (Some f) = (f.call < length client.calls) × ((budget : ℕ) × IsRun form client [] budget (Fails f.call f.clause 0))

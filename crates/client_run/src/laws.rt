@@ -1,12 +1,25 @@
 //! Laws on the definitions, each the contract of a function that does nothing.
-ghost use Rattle.client_run.specs.Laws.{MoreKeeps, RunsOnce};
+ghost use Rattle.client_run.specs.Kept.{BodiesStayInside, FramesKeepLengths};
+ghost use Rattle.client_run.specs.Laws.{FormsAgree, PointsAreTrees, SetsAreNotRead};
 
-/// For each program, choices and budget there is exactly one outcome.
-pub fn runs_once()
-    ensures { RunsOnce }
+/// A run from point to point comes to what the run by statement trees comes to, where points go on as statements do; and in the
+/// checked form of a client they do.
+pub fn points_are_trees()
+    ensures trees { PointsAreTrees }
+    ensures agree { FormsAgree }
 {}
 
-/// A greater budget keeps every outcome but that of a run that is cut.
-pub fn more_keeps()
-    ensures { MoreKeeps }
+/// No run reads which names are set, so a client that is run without them is run as its checked form.
+pub fn sets_are_not_read()
+    ensures { SetsAreNotRead }
+{}
+
+/// The statements of a procedure keep how many statics and variables there are.
+pub fn frames_keep_lengths()
+    ensures { FramesKeepLengths }
+{}
+
+/// In the checked form of a client that is well-formed, the body of a procedure leaves no loop that is not there.
+pub fn bodies_stay_inside()
+    ensures { BodiesStayInside }
 {}

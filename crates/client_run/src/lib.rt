@@ -1,12 +1,14 @@
-//! Runs of checked clients on the Easl heap.
+//! Runs of checked clients on the Easl heap, from point to point.
 #![tactic(auto)]
 
+mod frames;
+mod graph;
 mod laws;
 mod program;
 mod runner;
 mod state;
 mod straight;
 
-pub use laws::{more_keeps, runs_once};
+pub use laws::{bodies_stay_inside, frames_keep_lengths, points_are_trees, sets_are_not_read};
 pub use runner::{Outcome, RunFault, run};
-pub use straight::{Failure, run_straight};
+pub use straight::{Failure, is_straight, run_straight};

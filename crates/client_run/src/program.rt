@@ -1,41 +1,79 @@
-//! What runs of a checked client.
-use client_model::{CallSite, CheckedClient, Procedure};
+//! A client with where its points go on.
+ghost use Rattle.std.specs.Prelude.{◌≡◌, length, option_map, slice_get, IfOk};
+ghost use Rattle.client_run.specs.Graph.{ways_at};
+ghost use Rattle.client_model.specs.Checked.{seen};
+ghost use Rattle.client_steps.specs.States.{point_at, variable_count};
+
+use crate::graph::Graph;
+use client_model::{CallSite, CheckedClient, Point};
+use std::alloc::{AllocError, Global};
 use std::marker::Model;
 
-/// `main` with the client's calls.
+/// A client and its graph, which contracts see as the client.
 #[derive(Debug, Drop)]
 pub(crate) struct Program<'a> {
-    pub(crate) main: &'a Procedure,
     client: &'a CheckedClient,
+    graph: Graph,
 }
 
 impl<'a> Model for Program<'a> {
-    ghost use Rattle.client_model.specs.Program as told;
+    ghost use Rattle.std.specs.Prelude.{◌≡◌, map};
+    ghost use Rattle.client_run.specs.Graph.{next_in};
+    ghost use Rattle.client_model.specs.Program.{ClientForm};
     ghost use Rattle.client_model.specs.contracts.form.Node as node;
+    ghost use Rattle.client_model.specs.Checked.{procedure_seen};
     ghost use Rattle.std.specs.Coded.{codes};
 
-    ghost Value = { told.Program };
+    ghost Value = { ClientForm };
 
     ghost coded = { Prim.hlevel (codes, node.the_row.coded) };
 
-    ghost view = { λ p. told.program_in p.main.now p.client.now.calls };
+    ghost view = { λ p. p.client.now };
+
+    ghost invariant = { λ p. p.graph ≡ map (λ x. next_in (procedure_seen x)) p.client.now.procedures };
 }
 
 impl<'a> Program<'a> {
-    ghost use Rattle.std.specs.Prelude.{◌≡◌, option_map, slice_get};
-    ghost use Rattle.client_model.specs.Program.{program_of};
-
-    /// What runs of the client. It takes no memory.
-    #[tactic(auto, using(crate::proofs::Clients::has_main, crate::proofs::Clients::main_is, crate::proofs::Clients::keeps_calls))]
-    pub(crate) fn of(client: &'a CheckedClient) -> Program<'a>
-        ensures program { result ≡ program_of client.now }
-        ensures calls { result.calls ≡ client.now.calls }
+    /// That of a client.
+    pub(crate) fn of(alloc: Global, client: &'a CheckedClient) -> Result<Program<'a>, AllocError>
+        ensures { IfOk result (λ p. p ≡ client.now) }
     {
-        client.is_kept();
-        Program {
-            main: client.procedure(1),
-            client,
+        let graph = Graph::of(alloc, client)?;
+        Ok(Program { client, graph })
+    }
+
+    /// Where this point of the procedure goes on; its exit goes nowhere.
+    pub(crate) fn ways(&self, procedure: u32, point: u32) -> Option<(u32, u32)>
+        ensures { result ≡ ways_at (seen self.now) procedure point }
+    {
+        self.graph.ways(procedure, point)
+    }
+
+    /// What is done at this point of the procedure.
+    pub(crate) fn point(&self, procedure: u32, point: u32) -> Option<&'a Point>
+        ensures { option_map (λ x. x.now) result ≡ point_at (seen self.now) procedure point }
+    {
+        if procedure >= self.client.procedure_count() {
+            return None;
         }
+        let points = self.client.procedure(procedure).points.as_slice();
+        points.get(point as usize)
+    }
+
+    pub(crate) fn static_count(&self) -> usize
+        ensures { result ≡ length self.now.statics }
+    {
+        self.client.static_count() as usize
+    }
+
+    /// How many variables the procedure has.
+    pub(crate) fn variable_count(&self, procedure: u32) -> usize
+        ensures { result ≡ variable_count (seen self.now) procedure }
+    {
+        if procedure >= self.client.procedure_count() {
+            return 0;
+        }
+        self.client.procedure(procedure).variables.len()
     }
 
     /// The call of this number, if there is one.

@@ -1,10 +1,13 @@
-//! What a run changes: the heap, and the objects of the variables.
-ghost use Rattle.std.specs.Prelude.{◌≡◌, ◌+◌, ◌<◌, ◌≤◌, length, map, slice_get, All, IfOk, Some};
-ghost use Rattle.client_run.specs.Deeds.{Comes};
-ghost use Rattle.client_run.specs.Machine.{Begins};
-ghost use Rattle.client_run.specs.Run.{at_first, called, done, done_at, made, object_of, with_object};
-ghost use Rattle.client_run.specs.Straight.{CallFits};
+//! What a run changes: the heap, the objects of the statics, and the frames.
+ghost use Rattle.std.specs.Prelude.{◌≡◌, ◌∷◌, ◌<◌, ◌≤◌, [], length, map, option_map, slice_set, All, IfOk, OnOk};
+ghost use Rattle.client_run.specs.Deeds.{Begins, Comes, Resumes, call_told, done_by};
+ghost use Rattle.client_run.specs.Fitting.{CallFits};
+ghost use Rattle.client_run.specs.Places.{waiting};
+ghost use Rattle.client_model.specs.Checked.{seen};
+ghost use Rattle.client_steps.specs.Deeds.{called, done, done_at, made};
+ghost use Rattle.client_steps.specs.States.{at_first, entered, object_of, with_object};
 
+use crate::frames::{Behind, Frames};
 use crate::program::Program;
 use client_model::{CallSite, Point};
 use cv_base::Memory;
@@ -14,23 +17,35 @@ use smallvec::SmallVec;
 use std::alloc::{AllocError, Global};
 use std::marker::Model;
 
-/// The heap, and the object of each variable by number, 0 where it has none.
+/// The heap, the object of each static by number, 0 where it has none, and the frames.
 #[derive(Debug, Drop)]
 pub(crate) struct State {
     heap: Heap,
-    variables: Vec<u32>,
+    statics: Vec<u32>,
+    frames: Frames,
 }
 
 impl Model for State {
-    ghost use Rattle.client_run.specs.Run as told;
+    ghost use Rattle.client_run.specs.Places as told;
 
-    ghost Value = { told.State };
+    ghost Value = { told.Standing };
 
-    ghost view = { λ s. record { heap = s.heap; variables = s.variables.items } };
+    ghost view = { λ s. record {
+      state = record { heap = s.heap; statics = s.statics.items; variables = s.frames.variables; result = s.frames.result };
+      behind = s.frames.behind;
+    } };
 }
 
-/// The arguments of a call, which take no memory of their own: within the limits there are five at the most.
-type Arguments = SmallVec<u32, 5>;
+/// The arguments of a call, which take no memory of their own: within the limits there are 16 at the most.
+type Arguments = SmallVec<u32, 16>;
+
+/// A procedure call: the name that takes the result, the procedure, and the names of its arguments.
+#[derive(Clone, Copy, Debug)]
+pub(crate) struct Call<'a> {
+    pub(crate) target: Option<u32>,
+    pub(crate) callee: u32,
+    pub(crate) args: &'a [Option<u32>],
+}
 
 /// What was done at a point.
 #[derive(Clone, Copy, Debug, PartialEq, Eq)]
@@ -56,50 +71,67 @@ pub(crate) enum Begun {
 const MOST_OBJECTS: u32 = u32::MAX - 1025;
 
 impl State {
-    /// Before the first statement of the program.
-    pub(crate) fn at_first(alloc: Global, program: &Program) -> Result<State, Memory>
-        ensures { IfOk result (λ s. s ≡ at_first program.now) }
+    /// Before the first point of the start.
+    pub(crate) fn at_first(alloc: Global, program: &Program) -> Result<State, AllocError>
+        ensures { IfOk result (λ s. s ≡ record { state = at_first (seen program.now); behind = [] }) }
     {
-        let mut variables = Vec::new(alloc);
-        if variables.resize(program.main.variables.len(), 0).is_err() {
-            return Err(Memory);
-        }
-        let heap = Heap::new(alloc);
-        Ok(State { heap, variables })
+        let mut statics = Vec::new(alloc);
+        statics.resize(program.static_count(), 0)?;
+        let frames = Frames::first(alloc, program.variable_count(0))?;
+        Ok(State {
+            heap: Heap::new(alloc),
+            statics,
+            frames,
+        })
     }
 
     /// The object of the name, 0 where it is opaque.
     fn object_of(&self, name: Option<u32>) -> u32
-        ensures { result ≡ object_of self.now name }
+        ensures { result ≡ object_of self.now.state name }
     {
-        match name {
-            Some(code) => self
-                .variables
-                .get((code / 4) as usize)
-                .copied()
-                .unwrap_or(0),
-            None => 0,
+        let Some(code) = name else {
+            return 0;
+        };
+        let number = code / 4;
+        match code % 4 {
+            0 => self.statics.get(number as usize).copied().unwrap_or(0),
+            1 => self.frames.variable(number),
+            2 => 0,
+            _ => self.frames.result(),
         }
     }
 
+    /// The name takes the object; nothing changes where it is opaque.
     fn assign(&mut self, name: Option<u32>, object: u32)
-        ensures { self.new ≡ with_object name object self.old }
+        ensures { self.new ≡ record self.old { state = with_object name object self.old.state } }
     {
         let Some(code) = name else {
             return;
         };
-        let at = (code / 4) as usize;
-        if at < self.variables.len() {
-            self.variables[at] = object;
+        let number = code / 4;
+        match code % 4 {
+            0 => self.set_static(number, object),
+            1 => self.frames.set_variable(number, object),
+            2 => {}
+            _ => self.frames.set_result(object),
+        }
+    }
+
+    fn set_static(&mut self, number: u32, object: u32)
+        ensures { self.new ≡ record self.old { state = record self.old.state { statics = slice_set self.old.state.statics number object } } }
+    {
+        let number = number as usize;
+        if number < self.statics.len() {
+            self.statics[number] = object;
         }
     }
 
     /// The objects of a call's arguments.
-    fn arguments(&self, alloc: Global, site: &CallSite) -> Result<Arguments, AllocError>
-        ensures { IfOk result (λ found. found.items ≡ map (object_of self.now) site.now.args) }
+    fn arguments(&self, alloc: Global, names: &[Option<u32>]) -> Result<Arguments, AllocError>
+        ensures { IfOk result (λ found. found.items ≡ map (object_of self.now.state) names.now) }
     {
         let mut found = Arguments::new(alloc);
-        'each: for name in site.args.as_slice() {
+        'each: for name in names {
             found.push(self.object_of(*name))?;
         }
         Ok(found)
@@ -115,7 +147,8 @@ impl State {
         number: u32,
     ) -> Result<Deed, Memory>
         requires { All (CallFits spec.now) program.now.calls }
-        ensures { IfOk result (λ d. Comes self.new d (called spec.now program.now target number self.old)) }
+        ensures done { IfOk result (λ d. Comes self.new.state d (called spec.now (seen program.now) target number self.old.state)) }
+        ensures behind { self.new.behind ≡ self.old.behind }
     {
         match program.call(number) {
             Some(site) => self.make(alloc, spec, site, target, number),
@@ -132,9 +165,10 @@ impl State {
         number: u32,
     ) -> Result<Deed, Memory>
         requires { CallFits spec.now site.now }
-        ensures { IfOk result (λ d. Comes self.new d (made spec.now target number site.now self.old)) }
+        ensures done { IfOk result (λ d. Comes self.new.state d (made spec.now target number site.now self.old.state)) }
+        ensures behind { self.new.behind ≡ self.old.behind }
     {
-        let Ok(args) = self.arguments(alloc, site) else {
+        let Ok(args) = self.arguments(alloc, site.args.as_slice()) else {
             return Err(Memory);
         };
         let args = args.as_slice();
@@ -149,49 +183,8 @@ impl State {
         Ok(Deed::Did(done.steps))
     }
 
-    /// Begins a statement with so many units: takes its unit, does what is done at its point, and takes the units of
-    /// the Easl statements that were executed.
-    pub(crate) fn begin(
-        &mut self,
-        alloc: Global,
-        spec: &CheckedSpec,
-        program: &Program,
-        number: u32,
-        budget: u32,
-    ) -> Result<Begun, Memory>
-        requires { All (CallFits spec.now) program.now.calls }
-        ensures { IfOk result (Begins spec.now program.now number budget self.old self.new) }
-    {
-        if budget == 0 {
-            return Ok(Begun::Cut);
-        }
-        let left = budget - 1;
-        match self.do_at_number(alloc, spec, program, number)? {
-            Deed::Broke(call, clause) => Ok(Begun::Broke(call, clause)),
-            Deed::Did(steps) if steps <= left => Ok(Begun::Left(left - steps)),
-            Deed::Did(_) => Ok(Begun::Cut),
-        }
-    }
-
-    /// Does what is done at the point of this number.
-    fn do_at_number(
-        &mut self,
-        alloc: Global,
-        spec: &CheckedSpec,
-        program: &Program,
-        number: u32,
-    ) -> Result<Deed, Memory>
-        requires { All (CallFits spec.now) program.now.calls }
-        ensures { IfOk result (λ d. Comes self.new d (done_at spec.now program.now number self.old)) }
-    {
-        match program.main.points.as_slice().get(number as usize) {
-            Some(point) => self.do_at(alloc, spec, program, point),
-            None => Ok(Deed::Did(0)),
-        }
-    }
-
-    /// Does what is done at the point.
-    pub(crate) fn do_at(
+    /// Does what is done at the point, where it is no procedure call.
+    fn do_at(
         &mut self,
         alloc: Global,
         spec: &CheckedSpec,
@@ -199,7 +192,8 @@ impl State {
         point: &Point,
     ) -> Result<Deed, Memory>
         requires { All (CallFits spec.now) program.now.calls }
-        ensures { IfOk result (λ d. Comes self.new d (done spec.now program.now point.now self.old)) }
+        ensures done { IfOk result (λ d. Comes self.new.state d (done spec.now (seen program.now) point.now self.old.state)) }
+        ensures behind { self.new.behind ≡ self.old.behind }
     {
         match point {
             Point::Copy(target, source) => {
@@ -211,5 +205,84 @@ impl State {
             Point::Branch(Some(number)) => self.call(alloc, spec, program, None, *number),
             Point::Branch(None) | Point::Call(_, _, _, _) | Point::Nothing => Ok(Deed::Did(0)),
         }
+    }
+
+    /// Does what is done at the point, if there is one.
+    fn do_if(
+        &mut self,
+        alloc: Global,
+        spec: &CheckedSpec,
+        program: &Program,
+        point: Option<&Point>,
+    ) -> Result<Deed, Memory>
+        requires { All (CallFits spec.now) program.now.calls }
+        ensures done { IfOk result (λ d. Comes self.new.state d
+            (done_by spec.now (seen program.now) (option_map (λ x. x.now) point.entry) self.old.state)) }
+        ensures behind { self.new.behind ≡ self.old.behind }
+    {
+        match point {
+            Some(point) => self.do_at(alloc, spec, program, point),
+            None => Ok(Deed::Did(0)),
+        }
+    }
+
+    /// Begins a statement with so many units, where it is no procedure call: takes its unit, does what is done at its point, and
+    /// takes the units of the Easl statements that were executed.
+    pub(crate) fn begin(
+        &mut self,
+        alloc: Global,
+        spec: &CheckedSpec,
+        program: &Program,
+        procedure: u32,
+        number: u32,
+        budget: u32,
+    ) -> Result<Begun, Memory>
+        requires { All (CallFits spec.now) program.now.calls }
+        ensures begun { IfOk result (Begins spec.now (seen program.now) procedure number budget self.old.state self.new.state) }
+        ensures behind { self.new.behind ≡ self.old.behind }
+    {
+        if budget == 0 {
+            return Ok(Begun::Cut);
+        }
+        let left = budget - 1;
+        let point = program.point(procedure, number);
+        match self.do_if(alloc, spec, program, point)? {
+            Deed::Broke(call, clause) => Ok(Begun::Broke(call, clause)),
+            Deed::Did(steps) if steps <= left => Ok(Begun::Left(left - steps)),
+            Deed::Did(_) => Ok(Begun::Cut),
+        }
+    }
+
+    /// Enters a procedure; the one that calls it goes on at that point.
+    pub(crate) fn enter(
+        &mut self,
+        alloc: Global,
+        program: &Program,
+        call: Call,
+        procedure: u32,
+        point: u32,
+    ) -> Result<(), AllocError>
+        ensures { OnOk result (self.new ≡ record {
+          state = entered (seen program.now) (call_told call.entry) self.old.state;
+          behind = waiting procedure point (call_told call.entry) self.old.state ∷ self.old.behind;
+        }) }
+    {
+        let args = self.arguments(alloc, call.args)?;
+        let behind = Behind {
+            procedure,
+            point,
+            target: call.target,
+        };
+        self.frames.enter(args.as_slice(), program.variable_count(call.callee), behind)
+    }
+
+    /// Goes back to the procedure that waits first, if there is one, and answers it and the point behind its call.
+    pub(crate) fn leave(&mut self) -> Option<(u32, u32)>
+        ensures { Resumes self.old self.new self.old.behind result }
+    {
+        let object = self.frames.result();
+        let behind = self.frames.leave()?;
+        self.assign(behind.target, object);
+        Some((behind.procedure, behind.point))
     }
 }

@@ -2,11 +2,15 @@
 use Rattle.std.proofs.Common.{◌≡◌, ◌≢◌, ℕ, zero, suc, ◌+◌, ◌-◌, ◌≤◌, Bool, true, false, List, [], ◌∷◌, length, refl, sym, ap, subst, ◌∙◌, arith}
 use Rattle.std.specs.Prelude.{Option, if◌then◌else◌, nat_le, take}
 use Rattle.std.proofs.lemmas.Bool.{le-leb, leb-true}
-use Rattle.client_rules.specs.CheckedForm.{ClientForm}
+use Rattle.client_model.specs.CheckedForm.{ClientForm}
 use Rattle.client_model.specs.Nodes.{Tree, Trees, While}
 use Rattle.client_steps.specs.Deeds.{Broke, Deed, Did, done_at}
 use Rattle.client_steps.specs.Laws.{FailsOnTaken, MoreKeeps}
-use Rattle.client_steps.specs.Runs.{Again, Around, Back, Begun, Behind, Branches, Broken, Called, Cut, Ends, Enters, Fails, IsRun, Leaves, Leaving, Loops, Moment, On, Out, Outcome, Over, Passes, Result, Runs, RunsAll, Short, Skips, Steps, Stopped, Stops, Tested, Turn, Turns, around, begun, behind_call, behind_unit, branches, breaks, called_from, calls, charged, choosing, chosen, continues, enters, goes_on, inside, leaves, leaving, loops, no_more, on_false, on_true, out, outcome_of, passing, past, plain, returns, row, start, step, tested, turn_of, unit_of, unpaid, untaken, untried}
+use Rattle.client_steps.specs.Runs.{Again, Around, Back, Begun, Behind, Branches, Broken, Called, Cut, Ends, Enters, Fails, IsRun, Leaves, Leaving, Loops}
+use Rattle.client_steps.specs.Runs.{Moment, On, Out, Outcome, Over, Passes, Result, Runs, RunsAll, Short, Skips, Steps, Stopped, Stops, Tested, Turn, Turns}
+use Rattle.client_steps.specs.Runs.{around, begun, behind_call, behind_unit, branches, breaks, called_from, calls, charged, choosing, chosen, continues}
+use Rattle.client_steps.specs.Runs.{enters, goes_on, inside, leaves, leaving, loops, no_more, on_false, on_true, out, outcome_of, passing, past, plain}
+use Rattle.client_steps.specs.Runs.{returns, row, start, step, tested, turn_of, unit_of, unpaid, untaken, untried}
 use Rattle.client_steps.specs.States.{Call, State, body_at, entered}
 use Rattle.easl_model.specs.Form.{Form}
 

@@ -1,11 +1,12 @@
 -- Small clients and their runs, each constructed by the rules.
 use Rattle.std.proofs.Common.{ℕ, zero, suc, Bool, true, false, List, [], ◌∷◌, length, refl}
-use Rattle.client_rules.proofs.Texts.{at, calls, free, procedure, returns, void, w, small}
-use Rattle.client_rules.specs.CheckedForm.{form_of}
+use Rattle.client_model.proofs.Texts.{at, calls, free, procedure, returns, void, w, small}
+use Rattle.client_model.specs.CheckedForm.{form_of}
 use Rattle.client_model.specs.Statements.{Do, none, ◌▸◌}
-use Rattle.client_rules.specs.Trees.{Client}
+use Rattle.client_model.specs.Trees.{Client}
 use Rattle.client_model.specs.Statements as written
-use Rattle.client_steps.specs.Runs.{Back, Broken, Cut, Ends, Fails, IsRun, Leaves, Moment, Outcome, Passes, Result, RunsAll, Short, Stopped, around, branches, breaks, continues, enters, goes_on, inside, leaves, loops, no_more, on_false, on_true, out, row, step, unpaid, untried}
+use Rattle.client_steps.specs.Runs.{Back, Broken, Cut, Ends, Fails, IsRun, Leaves, Moment, Outcome, Passes, Result, RunsAll, Short, Stopped, around, branches}
+use Rattle.client_steps.specs.Runs.{breaks, continues, enters, goes_on, inside, leaves, loops, no_more, on_false, on_true, out, row, step, unpaid, untried}
 use Rattle.client_steps.specs.Runs as runs
 use Rattle.client_steps.specs.States.{State, body_at}
 

@@ -1,11 +1,15 @@
 -- There is a run: by induction on the units that are left, the procedures of the text before the start.
 use Rattle.std.proofs.Common.{◌≡◌, ℕ, zero, suc, ◌-◌, ◌<◌, ◌≤◌, Bool, true, false, List, [], ◌∷◌, refl, sym, subst, arith}
 use Rattle.std.specs.Prelude.{Option, Some, None, if◌then◌else◌, nat_le}
-use Rattle.client_rules.specs.CheckedForm.{ClientForm}
+use Rattle.client_model.specs.CheckedForm.{ClientForm}
 use Rattle.client_model.specs.Nodes.{Tree, Trees, Step, If, While, Break, Continue, Return, end, ◌▹◌}
 use Rattle.client_steps.specs.Deeds.{Broke, Deed, Did, done_at}
 use Rattle.client_steps.specs.Laws.{RunsExist}
-use Rattle.client_steps.specs.Runs.{Again, Around, Back, Begun, Behind, Branches, Broken, Called, Cut, Enters, Leaves, Loops, Moment, On, Out, Over, Passes, Result, Runs, RunsAll, Skips, Steps, Stopped, Stops, Tested, Turn, Turns, around, begun, behind_call, behind_unit, branches, breaks, called_from, calls, charged, choosing, chosen, continues, enters, goes_on, inside, leaves, leaving, loops, no_more, on_false, on_true, out, outcome_of, passing, past, plain, returns, row, start, step, tested, turn_of, unit_of, unpaid, untaken, untried}
+use Rattle.client_steps.specs.Runs.{Again, Around, Back, Begun, Behind, Branches, Broken, Called, Cut, Enters, Leaves, Loops, Moment, On, Out, Over, Passes}
+use Rattle.client_steps.specs.Runs.{Result, Runs, RunsAll, Skips, Steps, Stopped, Stops, Tested, Turn, Turns, around, begun, behind_call, behind_unit}
+use Rattle.client_steps.specs.Runs.{branches, breaks, called_from, calls, charged, choosing, chosen, continues, enters, goes_on, inside, leaves, leaving}
+use Rattle.client_steps.specs.Runs.{loops, no_more, on_false, on_true, out, outcome_of, passing, past, plain, returns, row, start, step, tested, turn_of}
+use Rattle.client_steps.specs.Runs.{unit_of, unpaid, untaken, untried}
 use Rattle.client_steps.specs.States.{Call, State, body_at, call_at, entered}
 use Rattle.easl_model.specs.Form.{Form}
 

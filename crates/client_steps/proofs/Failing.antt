@@ -2,14 +2,15 @@
 use Rattle.std.proofs.Common.{◌≡◌, ℕ, true, false, List, [], ◌∷◌, length, refl, sym, ap, ◌∙◌}
 use Rattle.std.specs.Prelude.{Option, Some, None, codes, not}
 use Rattle.std.specs.List.{position_from}
-use Rattle.client_rules.proofs.Texts.{at, calls, free, gives, method, new, of, on, param, procedure, static, void, w}
-use Rattle.client_rules.specs.CheckedForm.{form_of}
+use Rattle.client_model.proofs.Texts.{at, calls, free, gives, method, new, of, on, param, procedure, static, void, w}
+use Rattle.client_model.specs.CheckedForm.{form_of}
 use Rattle.client_model.specs.Statements.{Assign, Declare, Do, none, ◌▸◌}
-use Rattle.client_rules.specs.Trees.{Client}
+use Rattle.client_model.specs.Trees.{Client}
 use Rattle.client_model.specs.Statements as written
 use Rattle.client_steps.proofs.Alike.{fails_on_taken}
 use Rattle.client_steps.specs.Deeds.{answered}
-use Rattle.client_steps.specs.Runs.{Fails, IsRun, IsSafe, Leaves, Moment, Stopped, branches, charged, passing, enters, goes_on, leaves, no_more, on_false, on_true, plain, row, step}
+use Rattle.client_steps.specs.Runs.{Fails, IsRun, IsSafe, Leaves, Moment, Stopped, branches, charged, passing, enters, goes_on, leaves, no_more, on_false}
+use Rattle.client_steps.specs.Runs.{on_true, plain, row, step}
 use Rattle.client_steps.specs.Runs as runs
 use Rattle.client_steps.specs.States.{State}
 use Rattle.easl_heap.specs.Clause.{holds, requires_of}

@@ -1,10 +1,12 @@
 -- No run comes to two outcomes: by induction on the one, each of whose rules the other has to follow too.
 use Rattle.std.proofs.Common.{◌≡◌, ℕ, refl, sym, ap, subst, ◌∙◌}
 use Rattle.std.specs.Prelude.{Option}
-use Rattle.client_rules.specs.CheckedForm.{ClientForm}
+use Rattle.client_model.specs.CheckedForm.{ClientForm}
 use Rattle.client_model.specs.Nodes.{Tree, Trees, While}
 use Rattle.client_steps.specs.Laws.{RunsOnce}
-use Rattle.client_steps.specs.Runs.{Begun, Behind, Branches, Called, Loops, Moment, Result, Runs, RunsAll, Steps, Tested, Turn, Turns, around, behind_call, branches, breaks, calls, continues, enters, goes_on, inside, leaves, loops, no_more, on_false, on_true, out, outcome_of, past, plain, returns, row, step, turn_of, unpaid, untaken, untried}
+use Rattle.client_steps.specs.Runs.{Begun, Behind, Branches, Called, Loops, Moment, Result, Runs, RunsAll, Steps, Tested, Turn, Turns, around, behind_call}
+use Rattle.client_steps.specs.Runs.{branches, breaks, calls, continues, enters, goes_on, inside, leaves, loops, no_more, on_false, on_true, out, outcome_of}
+use Rattle.client_steps.specs.Runs.{past, plain, returns, row, step, turn_of, unpaid, untaken, untried}
 use Rattle.client_steps.specs.States.{Call}
 use Rattle.easl_model.specs.Form.{Form}
 

@@ -4,7 +4,7 @@ use Rattle.std.specs.Option.{option_map_or}
 use Rattle.client_model.specs.declared.form.CallSite.{CallSite}
 use Rattle.client_model.specs.declared.form.Point.{Point}
 use Rattle.client_model.specs.declared.form.Point.TheVariants as point
-use Rattle.client_rules.specs.CheckedForm.{ClientForm}
+use Rattle.client_model.specs.CheckedForm.{ClientForm}
 use Rattle.client_steps.specs.States.{State, object_of, point_at, with_object}
 use Rattle.easl_heap.specs.Body.{Outcome as Left, body}
 use Rattle.easl_heap.specs.Clause.{requires_of}

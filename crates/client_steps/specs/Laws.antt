@@ -1,6 +1,6 @@
 -- Laws on runs.
 use Rattle.std.specs.Prelude.{◌≡◌, ◌≢◌, ℕ, ◌-◌, ◌≤◌, Bool, List, length, take}
-use Rattle.client_rules.specs.CheckedForm.{ClientForm}
+use Rattle.client_model.specs.CheckedForm.{ClientForm}
 use Rattle.client_steps.specs.Runs.{Cut, Fails, IsRun, IsSafe, Outcome}
 use Rattle.easl_model.specs.Form.{Form}
 

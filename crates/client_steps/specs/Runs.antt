@@ -1,6 +1,6 @@
 -- Runs of a whole client on the Easl heap, by rules over its statement trees (own).
 use Rattle.std.specs.Prelude.{◌≡◌, ℕ, zero, suc, ◌-◌, Bool, true, false, List, [], ◌∷◌, Option, Some, None, if◌then◌else◌, length, nat_le}
-use Rattle.client_rules.specs.CheckedForm.{ClientForm}
+use Rattle.client_model.specs.CheckedForm.{ClientForm}
 use Rattle.client_model.specs.Nodes.{Tree, Trees, Step, If, While, Break, Continue, Return, end, ◌▹◌}
 use Rattle.client_steps.specs.Deeds.{Broke, Deed, Did, done_at}
 use Rattle.client_steps.specs.States.{Call, State, at_first, body_at, call_at, entered, returned}

@@ -3,8 +3,8 @@ use Rattle.std.specs.Prelude.{ℕ, ◌-◌, List, [], ◌++◌, Option, Some, No
 use Rattle.std.specs.Option.{option_map_or}
 use Rattle.client_model.specs.declared.form.Point.{Point}
 use Rattle.client_model.specs.declared.form.Point.TheVariants as point
-use Rattle.client_rules.specs.CheckedForm.{ClientForm, ProcedureForm}
-use Rattle.client_rules.specs.Codes.{Name, Result, Slot, Static, Variable, name_of}
+use Rattle.client_model.specs.CheckedForm.{ClientForm, ProcedureForm}
+use Rattle.client_model.specs.Codes.{Name, Result, Slot, Static, Variable, name_of}
 use Rattle.client_model.specs.Nodes.{Trees, end}
 use Rattle.easl_heap.specs.Heap.{Object}
 

@@ -1,7 +1,0 @@
-use Rattle.std.proofs.Common.{◌≡◌, map, take}
-use Rattle.client_machine.specs.Graph.{next_in}
-use Rattle.client_rules.specs.Checked.{procedure_seen}
-use Rattle.client_machine.proofs.graph.Graph.of.Given as goal
-
-abbrev pub invariant-each : goal.invariant-each
-invariant-each l = map (λ v. v.items) l.next.items ≡ map (λ p. next_in (procedure_seen p)) (take l.number l.client.procedures)

@@ -1,5 +1,0 @@
-use Rattle.client_machine.proofs.Lengths as lengths
-use Rattle.client_machine.proofs.laws.frames_keep_lengths.Goals as goal
-
-pub returns : goal.returns
-returns c = lengths.frames_keep_lengths

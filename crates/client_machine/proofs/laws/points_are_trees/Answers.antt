@@ -1,9 +1,0 @@
-use Rattle.client_machine.proofs.ByTrees as trees
-use Rattle.client_machine.proofs.Forms as forms
-use Rattle.client_machine.proofs.laws.points_are_trees.Goals as goal
-
-pub returns-clause-trees : goal.returns-clause-trees
-returns-clause-trees c = trees.points_are_trees
-
-pub returns-clause-agree : goal.returns-clause-agree
-returns-clause-agree c = forms.forms_agree

@@ -1,5 +1,0 @@
-use Rattle.client_rules.proofs.Codes.{codes_tell}
-use Rattle.client_rules.proofs.laws.codes_tell_names.Goals as goal
-
-pub returns : goal.returns
-returns c = codes_tell
