@@ -7,9 +7,9 @@ use Rattle.std.proofs.lemmas.Simd.{map-map}
 use Rattle.client_model.specs.declared.tree.Client.{Client as Written}
 use Rattle.client_model.specs.declared.tree.Proc.{Proc as WrittenProc}
 use Rattle.client_model.specs.declared.tree.Static.{Static}
-use Rattle.client_rules.specs.Faults.{Fault, comes_before}
-use Rattle.client_rules.specs.HeaderFaults.{faults_of_header, faults_of_headers, no_type, second_names}
-use Rattle.client_rules.specs.Trees.{client_of, procedure_of, procedures_in, statics_in}
+use Rattle.client_model.specs.Faults.{Fault, comes_before}
+use Rattle.client_model.specs.HeaderFaults.{faults_of_header, faults_of_headers, no_type, second_names}
+use Rattle.client_model.specs.Trees.{client_of, procedure_of, procedures_in, statics_in}
 use Rattle.easl_model.proofs.Finding.{both}
 use Rattle.easl_model.specs.Faults.{first_with}
 use Rattle.easl_model.specs.Form.{Form}

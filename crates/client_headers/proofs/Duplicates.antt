@@ -5,8 +5,8 @@ use Rattle.std.specs.Prelude.{Option}
 use Rattle.std.proofs.lemmas.List.{drop_more, take_more, map-append}
 use Rattle.std.proofs.lemmas.Simd.{map-map}
 use Rattle.client_model.specs.Lookups.{is_same}
-use Rattle.client_rules.specs.Faults.{Duplicate, Fault, broken_if, comes_before}
-use Rattle.client_rules.specs.HeaderFaults.{second_names}
+use Rattle.client_model.specs.Faults.{Duplicate, Fault, broken_if, comes_before}
+use Rattle.client_model.specs.HeaderFaults.{second_names}
 use Rattle.easl_model.proofs.Finding.{both}
 use Rattle.easl_model.specs.Faults.{first_with}
 use Rattle.easl_model.specs.declared.tree.Word.{Word}

@@ -8,7 +8,7 @@ use Rattle.std.specs.Prelude.{not}
 use Rattle.client_model.specs.declared.tree.Client.{Client}
 use Rattle.client_model.specs.declared.tree.Proc.{Proc}
 use Rattle.client_model.specs.declared.tree.Static.{Static}
-use Rattle.client_rules.specs.Trees.{client_of, items_of, procedure_of, procedures_in, statics_in}
+use Rattle.client_model.specs.Trees.{client_of, items_of, procedure_of, procedures_in, statics_in}
 
 -- how many of these there are
 abbrev of_kind : (Bool → Bool) → List Bool → ℕ

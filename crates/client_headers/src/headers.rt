@@ -1,17 +1,16 @@
 //! The faults of headers.
 ghost use Rattle.std.specs.Prelude.{◌≡◌, IfOk, option_map};
 ghost use Rattle.std.specs.List.{flat_map};
-ghost use Rattle.client_rules.specs.Faults.{first_of};
-ghost use Rattle.client_rules.specs.HeaderFaults as told;
-ghost use Rattle.client_rules.specs.Trees.{client_of, procedure_of};
+ghost use Rattle.client_model.specs.Faults.{first_of};
+ghost use Rattle.client_model.specs.HeaderFaults as told;
+ghost use Rattle.client_model.specs.Trees.{client_of, procedure_of};
 ghost use Rattle.client_values.specs.ToldFaults.{Finds, fault_told};
 ghost use Rattle.easl_model.specs.CheckedForm as forms;
 
 use crate::items::{procedures_of, statics_of};
-use crate::main_procedure::is_main;
 use crate::seconds::{second_params, second_procedures, second_statics};
 use client_model::{Client, Proc, Static};
-use client_values::{Fault, Rule, no_type, note_if};
+use client_values::{Fault, Rule, is_main, no_type, note_if};
 use cv_base::Memory;
 use easl_model::{CheckedSpec, Param, Sort};
 use std::alloc::Global;

@@ -1,7 +1,7 @@
 //! The items of a client by their kinds.
 ghost use Rattle.std.specs.Prelude.{◌≡◌, map, not};
 ghost use Rattle.std.specs.List.{count_by};
-ghost use Rattle.client_rules.specs.Trees.{client_of, procedure_of, procedures_in, statics_in};
+ghost use Rattle.client_model.specs.Trees.{client_of, procedure_of, procedures_in, statics_in};
 
 use client_model::{Client, Proc, Static};
 
@@ -17,7 +17,7 @@ pub(crate) fn statics_of(client: &Client) -> &[Static]
 
 /// The procedures that stand in the text.
 #[tactic(auto, using(crate::proofs::InOrder::procedures_listed))]
-pub(crate) fn procedures_of(client: &Client) -> &[Proc]
+pub fn procedures_of(client: &Client) -> &[Proc]
     ensures { map procedure_of result.now ≡ procedures_in (client_of client.now).items }
 {
     let all = client.procedures.as_slice();

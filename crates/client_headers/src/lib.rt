@@ -8,4 +8,5 @@ mod main_procedure;
 mod seconds;
 
 pub use headers::first_header_fault;
+pub use items::procedures_of;
 pub use main_procedure::no_main_fault;

@@ -1,17 +1,15 @@
 //! The procedure `main`.
-ghost use Rattle.std.specs.Prelude.{◌≡◌, chars, codes, option_map};
+ghost use Rattle.std.specs.Prelude.{◌≡◌, option_map};
 ghost use Rattle.std.specs.List.{list_any};
-ghost use Rattle.client_model.specs.Lookups.{is_same};
-ghost use Rattle.client_rules.specs.Faults.{first_of};
-ghost use Rattle.client_rules.specs.HeaderFaults as headers;
-ghost use Rattle.client_rules.specs.Rules as told;
-ghost use Rattle.client_rules.specs.Trees.{client_of, procedure_of};
+ghost use Rattle.client_model.specs.Faults.{first_of};
+ghost use Rattle.client_model.specs.HeaderFaults as headers;
+ghost use Rattle.client_model.specs.Rules as told;
+ghost use Rattle.client_model.specs.Trees.{client_of, procedure_of};
 ghost use Rattle.client_values.specs.ToldFaults.{fault_told};
 
 use crate::items::procedures_of;
 use client_model::{Client, Proc};
-use client_values::{Fault, Rule, note_if};
-use easl_model::Name;
+use client_values::{Fault, Rule, is_main, note_if};
 
 /// The fault of a client without a procedure `main`.
 pub fn no_main_fault(client: &Client) -> Option<Fault>
@@ -30,23 +28,4 @@ fn has_main(procedures: &[Proc]) -> bool
         }
     }
     false
-}
-
-pub(crate) fn is_main(procedure: &Proc) -> bool
-    ensures { result ≡ headers.is_main (procedure_of procedure.now) }
-{
-    is_main_name(&procedure.name.name)
-}
-
-fn is_main_name(name: &Name) -> bool
-    ensures { result ≡ is_same name.now (codes "main") }
-{
-    is_text(name, "main")
-}
-
-#[tactic(auto, using(client_values::proofs::Texts::same_test))]
-fn is_text(name: &Name, text: &str) -> bool
-    ensures { result ≡ is_same name.now (chars text.now) }
-{
-    name.0.as_str() == text
 }

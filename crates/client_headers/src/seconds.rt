@@ -2,8 +2,8 @@
 ghost use Rattle.std.specs.Prelude.{◌≡◌, ◌∷◌, ◌++◌, [], IfOk, OnOk, map};
 ghost use Rattle.std.specs.List.{list_any};
 ghost use Rattle.client_model.specs.Lookups.{is_same};
-ghost use Rattle.client_rules.specs.Faults as faults;
-ghost use Rattle.client_rules.specs.HeaderFaults as told;
+ghost use Rattle.client_model.specs.Faults as faults;
+ghost use Rattle.client_model.specs.HeaderFaults as told;
 ghost use Rattle.client_values.specs.ToldFaults.{Finds};
 
 use client_model::{Proc, Static};

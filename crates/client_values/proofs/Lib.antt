@@ -1,4 +1,4 @@
 pub mod Finding
+pub mod FirstNamed
 pub mod NamesFound
 pub mod Taking
-pub mod Texts

@@ -1,7 +1,7 @@
 -- Names that are looked for from the front of a list.
 use Rattle.std.proofs.Common.{◌≡◌, ◌≢◌, ℕ, suc, zero, ◌+◌, Bool, true, false, List, [], ◌∷◌, ap, drop, refl, sym, ◌∙◌, arith}
 use Rattle.std.specs.List.{position_from}
-use Rattle.std.specs.Prelude.{IsTrue, Option, Some, None, slice_get, option_map}
+use Rattle.std.specs.Prelude.{Option, Some, None, slice_get, option_map}
 use Rattle.client_model.specs.Lookups.{class_named, is_same}
 use Rattle.std.proofs.lemmas.Bool.{false_from_ne_true}
 use Rattle.std.proofs.lemmas.Slice.Eq.{bytes_eq-Decides}
@@ -49,7 +49,3 @@ pub class_passed : (form : Form) (k : ℕ) (name other : List ℕ) → option_ma
 class_passed form k name other there differs left =
     let found = some_class form k other there in
     sym (passed_over (NamedSo name) form.classes k found.0 found.1 (other_is found.0.name name (λ same. differs (sym found.2 ∙ same)))) ∙ left
-
-pub told_same : (told : Bool) (left right : List ℕ) → (IsTrue told → left ≡ right) → (told ≡ false → left ≢ right) → told ≡ is_same left right
-told_same true left right same other = sym (same_is left right (same refl))
-told_same false left right same other = sym (other_is left right (other refl))

@@ -3,10 +3,10 @@ use Rattle.std.proofs.Common.{◌≡◌, ℕ, suc, zero, ◌+◌, ◌<◌, List,
 use Rattle.std.proofs.lemmas.List.{drop_more}
 use Rattle.std.specs.Prelude.{Option, Some, option_and_then, option_map, slice_get}
 use Rattle.client_values.specs.Calling.{faults_of_argument}
-use Rattle.client_rules.specs.BodyFaults.{faults_of_arguments}
-use Rattle.client_rules.specs.Contexts.{Context}
-use Rattle.client_rules.specs.Faults.{Fault, comes_before}
-use Rattle.client_rules.specs.Settings.{Kind, Setting, callee_by, method_at}
+use Rattle.client_model.specs.BodyFaults.{faults_of_arguments}
+use Rattle.client_model.specs.Contexts.{Context}
+use Rattle.client_model.specs.Faults.{Fault, comes_before}
+use Rattle.client_model.specs.Settings.{Kind, Setting, callee_by, method_at}
 use Rattle.easl_model.proofs.Finding.{both}
 use Rattle.easl_model.specs.Faults.{first_with}
 use Rattle.easl_model.specs.Form.{Form}

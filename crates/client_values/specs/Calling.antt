@@ -1,10 +1,10 @@
 -- What is called, and what takes its arguments.
 use Rattle.std.specs.Prelude.{ℕ, List, Option, Some, None, ◌++◌}
 use Rattle.client_model.specs.declared.tree.Component.{Component}
-use Rattle.client_rules.specs.BodyFaults.{differs, faults_of_read, no_method, opaque_receiver}
-use Rattle.client_rules.specs.Contexts.{Context}
-use Rattle.client_rules.specs.Faults.{Fault}
-use Rattle.client_rules.specs.Settings.{Callee, Header, Kind, Setting, Procedure, kind_of_word}
+use Rattle.client_model.specs.BodyFaults.{differs, faults_of_read, no_method, opaque_receiver}
+use Rattle.client_model.specs.Contexts.{Context}
+use Rattle.client_model.specs.Faults.{Fault}
+use Rattle.client_model.specs.Settings.{Callee, Header, Kind, Setting, Procedure, kind_of_word}
 use Rattle.easl_model.specs.declared.tree.Word.{Word}
 
 -- the procedure of this number

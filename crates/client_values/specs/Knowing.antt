@@ -3,7 +3,7 @@ use Rattle.std.specs.Prelude.{◌≡◌, ◌==◌, ◌||◌, ℕ, Bool}
 use Rattle.std.specs.List.{list_any}
 use Rattle.client_values.specs.declared.context.Assigned.{Assigned}
 use Rattle.client_values.specs.declared.context.Context.{Context}
-use Rattle.client_rules.specs.Contexts as told
+use Rattle.client_model.specs.Contexts as told
 
 -- whether the name of this code is assigned
 abbrev pub is_marked : Assigned → ℕ → Bool

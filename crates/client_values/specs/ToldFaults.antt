@@ -3,7 +3,7 @@ use Rattle.std.specs.Prelude.{◌≡◌, List, Option, option_map}
 use Rattle.client_values.specs.declared.fault.Fault.{Fault}
 use Rattle.client_values.specs.declared.fault.Rule.{Rule}
 use Rattle.client_values.specs.declared.fault.Rule.TheVariants as rule
-use Rattle.client_rules.specs.Faults as told
+use Rattle.client_model.specs.Faults as told
 use Rattle.easl_model.specs.Faults.{first_with}
 
 abbrev pub rule_told : Rule → told.Rule

@@ -1,7 +1,7 @@
 -- What the code's kinds stand for in the rules of clients.
 use Rattle.client_values.specs.declared.kind.Kind.{Kind}
 use Rattle.client_values.specs.declared.kind.Kind.TheVariants as kind
-use Rattle.client_rules.specs.Settings as told
+use Rattle.client_model.specs.Settings as told
 
 abbrev pub kind_told : Kind → told.Kind
 kind_told (kind.Object class) = told.Object class

@@ -4,14 +4,15 @@ ghost use Rattle.client_values.specs.Calling.{faults_of_argument, callee_by_head
 ghost use Rattle.client_values.specs.Knowing.{Knows};
 ghost use Rattle.client_values.specs.ToldFaults.{Finds};
 ghost use Rattle.client_values.specs.ToldKinds.{kind_told};
-ghost use Rattle.client_rules.specs.BodyFaults as told;
-ghost use Rattle.client_rules.specs.Contexts as contexts;
-ghost use Rattle.client_rules.specs.Settings.{callee_by, method_at, valued};
+ghost use Rattle.client_model.specs.BodyFaults as told;
+ghost use Rattle.client_model.specs.Contexts as contexts;
+ghost use Rattle.client_model.specs.Settings.{callee_by, method_at, valued};
 
 use crate::context::Context;
 use crate::fault::{Fault, Rule, note_if};
+use crate::headers::Header;
 use crate::kind::{Kind, fits, valued};
-use crate::setting::{Header, Setting};
+use crate::setting::Setting;
 use crate::words::{faults_of_read, kind_of_word};
 use easl_model::{Method, Place, Word};
 

@@ -1,23 +1,22 @@
 //! What values call, and what they are.
-ghost use Rattle.std.specs.Prelude.{◌≡◌, ◌<◌, ◌+◌, [], IfSome, length, option_and_then, option_map};
+ghost use Rattle.std.specs.Prelude.{◌≡◌, ◌<◌, [], IfSome, length, option_and_then};
 ghost use Rattle.std.specs.Option.{option_map_or};
-ghost use Rattle.client_values.specs.Calling.{callee_by_header};
 ghost use Rattle.client_values.specs.Knowing.{Knows};
 ghost use Rattle.client_values.specs.ToldKinds.{kind_told};
 ghost use Rattle.client_model.specs.declared.tree.Rhs.TheVariants as rhs;
-ghost use Rattle.client_rules.specs.Contexts as contexts;
-ghost use Rattle.client_rules.specs.Settings as told;
+ghost use Rattle.client_model.specs.Contexts as contexts;
+ghost use Rattle.client_model.specs.Settings as told;
 
 use crate::context::Context;
 use crate::kind::{Kind, class_in, valued};
-use crate::names::{class_named, method_named, names_agree};
-use crate::setting::{Header, Setting};
+use crate::names::{class_named, method_named};
+use crate::setting::Setting;
 use crate::words::kind_of_word;
 use client_model::{Component, New, Rhs};
 use easl_model::{CheckedSpec, Method, Name};
 
 /// The number of the constructor that is called.
-pub(crate) fn constructor_called(setting: &Setting<'_>, new: &New) -> Option<u32>
+pub fn constructor_called(setting: &Setting<'_>, new: &New) -> Option<u32>
     ensures called { option_and_then (told.method_at setting.now.form) result ≡ told.callee_of setting.now [] (rhs.New new.now) }
     ensures in_range { IfSome result (λ n. n < length setting.now.form.methods) }
 {
@@ -28,11 +27,7 @@ pub(crate) fn constructor_called(setting: &Setting<'_>, new: &New) -> Option<u32
 }
 
 /// The number of the method that is called.
-pub(crate) fn method_called(
-    setting: &Setting<'_>,
-    context: &Context,
-    call: &Component,
-) -> Option<u32>
+pub fn method_called(setting: &Setting<'_>, context: &Context, call: &Component) -> Option<u32>
     ensures called { (c : contexts.Context) → Knows c context.now
         → option_and_then (told.method_at setting.now.form) result ≡ told.callee_of setting.now c.scope (rhs.Component call.now) }
     ensures in_range { IfSome result (λ n. n < length setting.now.form.methods) }
@@ -41,22 +36,6 @@ pub(crate) fn method_called(
         Some(class) => method_named(setting.spec, class, &call.method.name),
         None => None,
     }
-}
-
-/// The number and the header of the procedure that is called.
-pub(crate) fn procedure_called<'a>(
-    procedures: &'a [Header],
-    name: &Name,
-) -> Option<(usize, &'a Header)>
-    ensures { option_map (λ p. callee_by_header p.0 p.1.now) result ≡ told.procedure_from 1 procedures.now name.now }
-{
-    'each: for at in 0..procedures.len() {
-        let header = &procedures[at];
-        if names_agree(&header.name, name) {
-            return Some((at + 1, header));
-        }
-    }
-    None
 }
 
 /// What a method gives.
@@ -111,7 +90,7 @@ pub(crate) fn kind_of_component(setting: &Setting<'_>, context: &Context, call: 
 fn kind_of_call(setting: &Setting<'_>, name: &Name) -> Kind
     ensures { kind_told result ≡ option_map_or (λ m. m.result) (told.procedure_from 1 setting.now.procedures name.now) told.Unknown }
 {
-    match procedure_called(setting.procedures, name) {
+    match setting.procedures.called(name) {
         Some((_, header)) => header.result,
         None => Kind::Unknown,
     }

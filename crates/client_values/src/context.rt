@@ -3,11 +3,11 @@ ghost use Rattle.std.specs.Prelude.{◌≡◌, ◌==◌, option_map};
 ghost use Rattle.std.specs.List.{list_any};
 ghost use Rattle.client_values.specs.Knowing.{Knows, is_marked};
 ghost use Rattle.client_model.specs.Lookups.{is_same};
-ghost use Rattle.client_rules.specs.Contexts as told;
-ghost use Rattle.client_rules.specs.Settings.{variable_named};
+ghost use Rattle.client_model.specs.Contexts as told;
+ghost use Rattle.client_model.specs.Settings.{variable_named};
 
-use crate::names::names_agree;
-use crate::setting::{Setting, Variable, variable_among};
+use crate::scope::{Scope, Variable};
+use crate::setting::Setting;
 use easl_model::Name;
 use sqlite_items::Items;
 
@@ -23,7 +23,7 @@ pub struct Assigned {
 /// client stand before it in the text.
 #[derive(Debug, Drop)]
 pub struct Context {
-    pub scope: Items<Variable>,
+    pub scope: Scope,
     pub assigned: Assigned,
     pub reached: bool,
     pub looped: bool,
@@ -41,9 +41,9 @@ pub fn variable_named<'a>(
 ) -> Option<&'a Variable>
     ensures { (c : told.Context) → Knows c context.now → option_map (λ v. v.now) result ≡ variable_named setting.now c.scope name.now }
 {
-    match variable_among(context.scope.as_slice(), name) {
+    match context.scope.named(name) {
         Some(variable) => Some(variable),
-        None => variable_among(setting.statics, name),
+        None => setting.statics.named(name),
     }
 }
 
@@ -51,19 +51,7 @@ pub fn variable_named<'a>(
 pub fn is_local(context: &Context, name: &Name) -> bool
     ensures { (c : told.Context) → Knows c context.now → result ≡ list_any (λ v. is_same v.name name.now) c.scope }
 {
-    is_named(context.scope.as_slice(), name)
-}
-
-#[tactic(auto, using(std::proofs::lemmas::List::drop_more))]
-fn is_named(variables: &[Variable], name: &Name) -> bool
-    ensures { result ≡ list_any (λ v. is_same v.name name.now) variables.now }
-{
-    'each: for variable in variables {
-        if names_agree(&variable.name, name) {
-            return true;
-        }
-    }
-    false
+    context.scope.has(name)
 }
 
 /// Whether the name of this code is surely assigned.

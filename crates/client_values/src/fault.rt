@@ -1,7 +1,7 @@
 //! Faults of clients, and the first of some.
 ghost use Rattle.std.specs.Prelude.{◌≡◌, ◌∷◌, []};
 ghost use Rattle.client_values.specs.ToldFaults.{Finds, fault_told, rule_told};
-ghost use Rattle.client_rules.specs.Faults as told;
+ghost use Rattle.client_model.specs.Faults as told;
 ghost use Rattle.easl_model.specs.Faults.{stands_before};
 
 use easl_model::Place;

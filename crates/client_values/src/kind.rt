@@ -1,7 +1,7 @@
 //! What types and values are.
 ghost use Rattle.std.specs.Prelude.{◌≡◌};
 ghost use Rattle.client_values.specs.ToldKinds.{kind_told};
-ghost use Rattle.client_rules.specs.Settings as told;
+ghost use Rattle.client_model.specs.Settings as told;
 
 use crate::names::class_named;
 use easl_model::{CheckedSpec, Sort};
@@ -40,7 +40,7 @@ pub fn kind_of(spec: &CheckedSpec, sort: &Sort) -> Kind
 }
 
 /// The class, where there is one.
-pub(crate) fn class_in(kind: Kind) -> Option<u32>
+pub fn class_in(kind: Kind) -> Option<u32>
     ensures { result ≡ told.class_in (kind_told kind) }
 {
     match kind {

@@ -1,16 +1,11 @@
 //! What names stand for in a specification, and words that are literals.
 ghost use Rattle.std.specs.Prelude.{◌≡◌, ◌<◌, ◌&&◌, ◌==◌, not, chars, codes, length, IfSome};
 ghost use Rattle.client_model.specs.Lookups as told;
+ghost use Rattle.client_model.specs.HeaderFaults as headers;
+ghost use Rattle.client_model.specs.Trees.{procedure_of};
 
+use client_model::Proc;
 use easl_model::{CheckedSpec, Method, Name};
-
-/// Whether two names are one.
-#[tactic(auto, using(crate::proofs::NamesFound::told_same))]
-pub(crate) fn names_agree(one: &Name, other: &Name) -> bool
-    ensures { result ≡ told.is_same one.now other.now }
-{
-    one.is_same(other)
-}
 
 /// The number of the class of this name.
 pub(crate) fn class_named(spec: &CheckedSpec, name: &Name) -> Option<u32>
@@ -47,7 +42,7 @@ fn is_named(method: &Method, class: u32, name: &Name) -> bool
 }
 
 /// Whether a word is a literal.
-pub(crate) fn is_literal(name: &Name) -> bool
+pub fn is_literal(name: &Name) -> bool
     ensures { result ≡ told.is_literal name.now }
 {
     begins_literal(name) || is_true(name) || is_false(name)
@@ -65,6 +60,19 @@ fn is_false(name: &Name) -> bool
     is_text(name, "false")
 }
 
+/// Whether a procedure is `main`.
+pub fn is_main(procedure: &Proc) -> bool
+    ensures { result ≡ headers.is_main (procedure_of procedure.now) }
+{
+    is_main_name(&procedure.name.name)
+}
+
+fn is_main_name(name: &Name) -> bool
+    ensures { result ≡ told.is_same name.now (codes "main") }
+{
+    is_text(name, "main")
+}
+
 fn begins_literal(name: &Name) -> bool
     ensures { result ≡ told.begins_literal name.now }
 {
@@ -74,8 +82,8 @@ fn begins_literal(name: &Name) -> bool
     }
 }
 
-#[tactic(auto, using(crate::proofs::Texts::same_test))]
-pub(crate) fn is_text(name: &Name, text: &str) -> bool
+#[tactic(auto, using(name_table::proofs::Positions::same_test))]
+fn is_text(name: &Name, text: &str) -> bool
     ensures { result ≡ told.is_same name.now (chars text.now) }
 {
     name.0.as_str() == text

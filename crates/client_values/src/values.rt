@@ -1,30 +1,26 @@
 //! The faults of values, tests and what a `return` gives.
 ghost use Rattle.std.specs.Prelude.{◌≡◌};
-ghost use Rattle.std.specs.List.{list_any};
 ghost use Rattle.client_values.specs.Calling.{faults_of_receiver};
 ghost use Rattle.client_values.specs.Knowing.{Knows};
 ghost use Rattle.client_values.specs.ToldFaults.{Finds};
 ghost use Rattle.client_values.specs.ToldKinds.{kind_told};
-ghost use Rattle.client_model.specs.Lookups.{is_same};
 ghost use Rattle.client_model.specs.declared.tree.Rhs.TheVariants as rhs;
-ghost use Rattle.client_rules.specs.BodyFaults as told;
-ghost use Rattle.client_rules.specs.Contexts as contexts;
-ghost use Rattle.client_rules.specs.HeaderFaults as headers;
-ghost use Rattle.client_rules.specs.Settings.{procedure_from};
-ghost use Rattle.client_rules.specs.Trees as trees;
+ghost use Rattle.client_model.specs.BodyFaults as told;
+ghost use Rattle.client_model.specs.Contexts as contexts;
+ghost use Rattle.client_model.specs.HeaderFaults as headers;
+ghost use Rattle.client_model.specs.Settings.{procedure_from};
+ghost use Rattle.client_model.specs.Trees as trees;
 
 use crate::arguments::{differs, faults_of_numbered, faults_of_procedure_call, faults_of_untaken};
-use crate::callee::{
-    constructor_called, kind_of_component, kind_of_value, method_called, procedure_called,
-};
+use crate::callee::{constructor_called, kind_of_component, kind_of_value, method_called};
 use crate::context::Context;
 use crate::fault::{Fault, Rule, note, note_if};
 use crate::kind::{Kind, fits};
-use crate::names::{class_named, method_named, names_agree};
-use crate::setting::{Header, Setting};
+use crate::names::{class_named, method_named};
+use crate::setting::Setting;
 use crate::words::{faults_of_read, kind_of_word};
 use client_model::{Call, Component, New, Rhs, Test};
-use easl_model::{CheckedSpec, Name, Place, Sort, Word};
+use easl_model::{CheckedSpec, Place, Sort, Word};
 
 /// A class is not there.
 pub(crate) fn no_class(spec: &CheckedSpec, class: &Word, found: Option<Fault>) -> Option<Fault>
@@ -66,20 +62,8 @@ fn no_method(
 fn no_procedure(setting: &Setting<'_>, procedure: &Word, found: Option<Fault>) -> Option<Fault>
     ensures { Finds found result (told.no_procedure setting.now procedure.now) }
 {
-    let is_there = is_procedure(setting.procedures, &procedure.name);
+    let is_there = setting.procedures.has(&procedure.name);
     note_if(found, !is_there, Rule::Unknown, procedure.place)
-}
-
-#[tactic(auto, using(std::proofs::lemmas::List::drop_more))]
-fn is_procedure(procedures: &[Header], name: &Name) -> bool
-    ensures { result ≡ list_any (λ h. is_same h.name name.now) procedures.now }
-{
-    'each: for header in procedures {
-        if names_agree(&header.name, name) {
-            return true;
-        }
-    }
-    false
 }
 
 /// A receiver is opaque.
@@ -178,7 +162,7 @@ fn faults_of_arguments_of(
         (told.faults_of_call setting.now c call.now.procedure.place (procedure_from 1 setting.now.procedures call.now.procedure.name) call.now.args) }
 {
     let args = call.args.as_slice();
-    match procedure_called(setting.procedures, &call.procedure.name) {
+    match setting.procedures.called(&call.procedure.name) {
         Some((_, header)) => {
             let place = call.procedure.place;
             faults_of_procedure_call(setting, context, place, header, args, found)

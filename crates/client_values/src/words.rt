@@ -3,9 +3,9 @@ ghost use Rattle.std.specs.Prelude.{◌≡◌};
 ghost use Rattle.client_values.specs.Knowing.{Knows};
 ghost use Rattle.client_values.specs.ToldFaults.{Finds};
 ghost use Rattle.client_values.specs.ToldKinds.{kind_told};
-ghost use Rattle.client_rules.specs.BodyFaults as told;
-ghost use Rattle.client_rules.specs.Contexts as contexts;
-ghost use Rattle.client_rules.specs.Settings.{kind_of_word};
+ghost use Rattle.client_model.specs.BodyFaults as told;
+ghost use Rattle.client_model.specs.Contexts as contexts;
+ghost use Rattle.client_model.specs.Settings.{kind_of_word};
 
 use crate::context::{Context, is_assigned, variable_named};
 use crate::fault::{Fault, Rule, note_if};

@@ -20,7 +20,7 @@ one_decision false true first second there back = first.1 (back (second.0 refl))
 one_decision false false first second there back = refl
 
 -- bytes are one where their characters are
-same_test : (bytes other name : List ℕ) → IsUtf8 bytes → IsUtf8 other → chars bytes ≡ name → bytes_eq bytes other ≡ is_same name (chars other)
+pub same_test : (bytes other name : List ℕ) → IsUtf8 bytes → IsUtf8 other → chars bytes ≡ name → bytes_eq bytes other ≡ is_same name (chars other)
 same_test bytes other name text other_text spell =
     one_decision (bytes_eq bytes other) (is_same name (chars other)) (bytes_eq-Decides bytes other) (bytes_eq-Decides name (chars other))
     (λ same. sym spell ∙ ap chars same) (λ same. same_text bytes other text other_text (spell ∙ same))

@@ -2,9 +2,9 @@ use Rattle.std.proofs.Common.{◌≡◌, drop}
 use Rattle.std.specs.List.{flat_map}
 use Rattle.std.specs.Prelude.{option_map}
 use Rattle.client_headers.proofs.headers.faults_of_procedures.Given as goal
-use Rattle.client_rules.specs.Faults.{comes_before}
-use Rattle.client_rules.specs.HeaderFaults.{faults_of_header}
-use Rattle.client_rules.specs.Trees.{procedure_of}
+use Rattle.client_model.specs.Faults.{comes_before}
+use Rattle.client_model.specs.HeaderFaults.{faults_of_header}
+use Rattle.client_model.specs.Trees.{procedure_of}
 use Rattle.client_values.specs.ToldFaults.{fault_told}
 use Rattle.easl_model.specs.Faults.{first_with}
 

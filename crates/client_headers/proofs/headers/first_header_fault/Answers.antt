@@ -3,8 +3,8 @@ use Rattle.std.proofs.lemmas.Result.{IfOk-weaker}
 use Rattle.std.specs.Prelude.{None}
 use Rattle.client_headers.proofs.AllHeaders.{all_headers}
 use Rattle.client_headers.proofs.headers.first_header_fault.Goals as goal
-use Rattle.client_rules.specs.HeaderFaults.{faults_of_headers}
-use Rattle.client_rules.specs.Trees.{client_of}
+use Rattle.client_model.specs.HeaderFaults.{faults_of_headers}
+use Rattle.client_model.specs.Trees.{client_of}
 use Rattle.client_values.specs.ToldFaults.{Finds, fault_told}
 
 pub returns : goal.returns

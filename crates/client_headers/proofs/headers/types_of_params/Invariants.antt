@@ -2,8 +2,8 @@ use Rattle.std.proofs.Common.{◌≡◌, drop}
 use Rattle.std.specs.List.{flat_map}
 use Rattle.std.specs.Prelude.{option_map}
 use Rattle.client_headers.proofs.headers.types_of_params.Given as goal
-use Rattle.client_rules.specs.Faults.{comes_before}
-use Rattle.client_rules.specs.HeaderFaults.{no_type}
+use Rattle.client_model.specs.Faults.{comes_before}
+use Rattle.client_model.specs.HeaderFaults.{no_type}
 use Rattle.client_values.specs.ToldFaults.{fault_told}
 use Rattle.easl_model.specs.Faults.{first_with}
 

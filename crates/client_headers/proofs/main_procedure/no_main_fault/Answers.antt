@@ -3,9 +3,9 @@ use Rattle.std.specs.Prelude.{None}
 use Rattle.std.specs.List.{list_any}
 use Rattle.client_headers.proofs.Duplicates.{any_map}
 use Rattle.client_headers.proofs.main_procedure.no_main_fault.Goals as goal
-use Rattle.client_rules.specs.Faults.{NoMain, broken_if, comes_before}
-use Rattle.client_rules.specs.HeaderFaults.{is_main}
-use Rattle.client_rules.specs.Trees.{procedure_of}
+use Rattle.client_model.specs.Faults.{NoMain, broken_if, comes_before}
+use Rattle.client_model.specs.HeaderFaults.{is_main}
+use Rattle.client_model.specs.Trees.{procedure_of}
 use Rattle.easl_model.specs.Faults.{first_with}
 
 pub returns : goal.returns

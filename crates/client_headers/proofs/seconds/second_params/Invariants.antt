@@ -3,8 +3,8 @@ use Rattle.std.specs.Prelude.{option_map}
 use Rattle.client_headers.proofs.Duplicates.{Seconds}
 use Rattle.client_headers.proofs.seconds.second_params.Given as goal
 use Rattle.easl_model.specs.declared.tree.Param.{Param}
-use Rattle.client_rules.specs.Faults.{comes_before}
-use Rattle.client_rules.specs.HeaderFaults.{second_names}
+use Rattle.client_model.specs.Faults.{comes_before}
+use Rattle.client_model.specs.HeaderFaults.{second_names}
 use Rattle.client_values.specs.ToldFaults.{fault_told}
 use Rattle.easl_model.specs.Faults.{first_with}
 

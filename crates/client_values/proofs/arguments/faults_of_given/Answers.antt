@@ -1,7 +1,7 @@
 use Rattle.std.proofs.Common.{option_map}
 use Rattle.client_values.proofs.Taking.{next_argument}
 use Rattle.client_values.specs.ToldFaults.{fault_told}
-use Rattle.client_rules.specs.Settings.{valued}
+use Rattle.client_model.specs.Settings.{valued}
 use Rattle.client_values.proofs.arguments.faults_of_given.Goals as goal
 
 pub each-preserved : goal.each-preserved

@@ -1,11 +1,11 @@
 use Rattle.std.proofs.Common.{◌≡◌, drop, map}
 use Rattle.std.specs.Prelude.{option_map}
-use Rattle.client_rules.specs.Settings.{valued}
+use Rattle.client_model.specs.Settings.{valued}
 use Rattle.client_values.specs.Knowing.{Knows}
 use Rattle.client_values.specs.ToldFaults.{fault_told}
-use Rattle.client_rules.specs.BodyFaults.{faults_of_arguments}
-use Rattle.client_rules.specs.Contexts.{Context}
-use Rattle.client_rules.specs.Faults.{comes_before}
+use Rattle.client_model.specs.BodyFaults.{faults_of_arguments}
+use Rattle.client_model.specs.Contexts.{Context}
+use Rattle.client_model.specs.Faults.{comes_before}
 use Rattle.easl_model.specs.Faults.{first_with}
 use Rattle.client_values.proofs.arguments.faults_of_given.Given as goal
 

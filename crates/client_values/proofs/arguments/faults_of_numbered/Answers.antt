@@ -2,7 +2,7 @@ use Rattle.std.proofs.Common.{ap, subst, sym, ◌∙◌}
 use Rattle.std.specs.Prelude.{slice_get}
 use Rattle.client_values.proofs.Taking.{numbered}
 use Rattle.client_values.specs.ToldFaults.{Finds}
-use Rattle.client_rules.specs.BodyFaults.{faults_of_call}
+use Rattle.client_model.specs.BodyFaults.{faults_of_call}
 use Rattle.client_values.proofs.arguments.faults_of_numbered.Goals as goal
 
 pub returns-in-Some : goal.returns-in-Some

@@ -2,8 +2,8 @@ use Rattle.client_values.specs.Calling.{callee_by_header}
 use Rattle.client_values.specs.ToldFaults.{Finds}
 use Rattle.std.proofs.Common.{ap, subst, ◌≡◌, ◌∙◌}
 use Rattle.std.specs.Prelude.{Some}
-use Rattle.client_rules.specs.BodyFaults.{faults_of_call}
-use Rattle.client_rules.specs.Settings.{procedure_from}
+use Rattle.client_model.specs.BodyFaults.{faults_of_call}
+use Rattle.client_model.specs.Settings.{procedure_from}
 use Rattle.client_values.proofs.values.faults_of_arguments_of.Goals as goal
 
 pub returns-in-Some : goal.returns-in-Some

@@ -1,7 +1,0 @@
-use Rattle.std.proofs.Common.{◌≡◌, drop}
-use Rattle.std.specs.List.{list_any}
-use Rattle.client_model.specs.Lookups.{is_same}
-use Rattle.client_values.proofs.context.is_named.Given as goal
-
-abbrev pub invariant-each : goal.invariant-each
-invariant-each l = list_any (λ v. is_same v.name l.name) (drop l.variable-index l.variables) ≡ list_any (λ v. is_same v.name l.name) l.variables
