@@ -6,14 +6,14 @@ use Rattle.std.specs.Prelude.{Option, Some, None, option_map, slice_get}
 use Rattle.client_model.specs.Statements.{Assign}
 use Rattle.client_model.specs.declared.tree.Proc.{Proc}
 use Rattle.client_model.specs.declared.tree.Static.{Static}
-use Rattle.client_rules.specs.Bodies.{before_initialiser, bodies_from, body_of, end_of, initialiser}
-use Rattle.client_rules.specs.BodyFaults.{faults_of_statement}
-use Rattle.client_rules.specs.Codes.{static_code}
-use Rattle.client_rules.specs.Contexts.{call_count}
-use Rattle.client_rules.specs.Faults.{Fault as Told, comes_before}
-use Rattle.client_rules.specs.Rules.{faults_of_body}
-use Rattle.client_rules.specs.Settings.{Header, Setting, Variable, header_of, kind_of, statics_from}
-use Rattle.client_rules.specs.Trees.{Initialiser, Item, Procedure, items_of, procedure_of, procedures_in, statics_in}
+use Rattle.client_model.specs.Bodies.{before_initialiser, bodies_from, body_of, end_of, initialiser}
+use Rattle.client_model.specs.BodyFaults.{faults_of_statement}
+use Rattle.client_model.specs.Codes.{static_code}
+use Rattle.client_model.specs.Contexts.{call_count}
+use Rattle.client_model.specs.Faults.{Fault as Told, comes_before}
+use Rattle.client_model.specs.Rules.{faults_of_body}
+use Rattle.client_model.specs.Settings.{Header, Setting, Variable, header_of, kind_of, statics_from}
+use Rattle.client_model.specs.Trees.{Initialiser, Item, Procedure, items_of, procedure_of, procedures_in, statics_in}
 use Rattle.client_values.proofs.NamesFound.{rest_is}
 use Rattle.client_values.specs.ToldFaults.{Finds, fault_told}
 use Rattle.client_values.specs.declared.fault.Fault.{Fault}

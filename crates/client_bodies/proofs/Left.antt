@@ -9,8 +9,8 @@ use Rattle.std.specs.Prelude.{◌==◌, ◌&&◌, ◌||◌, Some, None, filter, 
 use Rattle.client_bodies.proofs.Marked.{both_marks, has_meet}
 use Rattle.client_bodies.specs.Walking.{Grows, is_among, joined, outside_of, put_back}
 use Rattle.client_model.specs.Statements.{Statement, Statements, Declare, Assign, Do, If, While, Break, Continue, Return, none, ◌▸◌}
-use Rattle.client_rules.specs.Contexts as told
-use Rattle.client_rules.specs.Settings.{Setting}
+use Rattle.client_model.specs.Contexts as told
+use Rattle.client_model.specs.Settings.{Setting}
 use Rattle.client_values.specs.Knowing.{Knows, is_marked}
 use Rattle.client_values.specs.declared.context.Assigned.{Assigned}
 use Rattle.client_values.specs.declared.context.Context.{Context}

@@ -9,8 +9,8 @@ use Rattle.std.specs.Prelude.{◌==◌, ◌&&◌, ◌||◌, Option, Some, None, 
 use Rattle.client_values.specs.Knowing.{Knows, is_marked}
 use Rattle.client_values.specs.declared.context.Assigned.{Assigned}
 use Rattle.client_values.specs.declared.context.Context.{Context}
-use Rattle.client_rules.specs.Contexts as told
-use Rattle.client_rules.specs.Settings.{Setting, Variable, variable_named}
+use Rattle.client_model.specs.Contexts as told
+use Rattle.client_model.specs.Settings.{Setting, Variable, variable_named}
 use Rattle.easl_model.specs.declared.tree.Word.{Word}
 
 pub swap : (a b r : Bool) → (a || (b || r)) ≡ (b || (a || r))

@@ -6,9 +6,9 @@ use Rattle.std.specs.Prelude.{◌==◌, ◌||◌, Some, None, slice_get}
 use Rattle.client_bodies.proofs.Left.{assigned_left}
 use Rattle.client_bodies.proofs.Marked.{swap}
 use Rattle.client_bodies.specs.Walking.{Grows, IsBare, outside_of, put_back}
-use Rattle.client_rules.specs.Bodies.{at_entry, before_initialiser, codes_of, params_from}
-use Rattle.client_rules.specs.Contexts.{These, with_code}
-use Rattle.client_rules.specs.Settings.{Setting, Variable}
+use Rattle.client_model.specs.Bodies.{at_entry, before_initialiser, codes_of, params_from}
+use Rattle.client_model.specs.Contexts.{These, with_code}
+use Rattle.client_model.specs.Settings.{Setting, Variable}
 use Rattle.client_values.specs.Knowing.{Knows}
 use Rattle.client_values.specs.declared.context.Context.{Context}
 use Rattle.easl_model.specs.declared.tree.Param.{Param}

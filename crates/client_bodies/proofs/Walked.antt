@@ -15,10 +15,10 @@ use Rattle.client_model.specs.declared.tree.Stmt.{Stmt}
 use Rattle.client_model.specs.declared.tree.Stmt.TheVariants as stmt
 use Rattle.client_model.specs.declared.tree.Test.{Test}
 use Rattle.easl_model.specs.declared.tree.Word.{Word}
-use Rattle.client_rules.specs.BodyFaults.{faults_at}
-use Rattle.client_rules.specs.Contexts.{Context, after, after_all, counting, entered, evaluated, situated, situated_in, stopped, value_of_test}
-use Rattle.client_rules.specs.Faults.{Fault as Told, comes_before}
-use Rattle.client_rules.specs.Settings.{Setting}
+use Rattle.client_model.specs.BodyFaults.{faults_at}
+use Rattle.client_model.specs.Contexts.{Context, after, after_all, counting, entered, evaluated, situated, situated_in, stopped, value_of_test}
+use Rattle.client_model.specs.Faults.{Fault as Told, comes_before}
+use Rattle.client_model.specs.Settings.{Setting}
 use Rattle.client_model.specs.Statements.{Statement, Statements, Assign, Do, If, While, none, statement_of, ◌▸◌}
 use Rattle.easl_model.proofs.Finding.{both}
 use Rattle.easl_model.specs.Faults.{first_with}

@@ -1,15 +1,17 @@
 -- Going through the items of a client in text order: where one stands, and what there is in the end.
-use Rattle.std.specs.Prelude.{ℕ, suc, Bool, List, ◌++◌, Option, drop, length, map, option_map}
+use Rattle.std.specs.Prelude.{ℕ, suc, Bool, List, [], ◌++◌, Option, drop, length, map, option_map}
 use Rattle.std.specs.List.{flat_map}
 use Rattle.client_bodies.specs.Walking.{IsBare}
 use Rattle.client_bodies.specs.declared.bodies.Progress.{Progress}
 use Rattle.client_bodies.specs.declared.tables.Tables.{Tables}
 use Rattle.client_model.specs.declared.tree.Client.{Client}
-use Rattle.client_rules.specs.Bodies.{before_initialiser, bodies_from}
-use Rattle.client_rules.specs.Faults.{Fault, comes_before}
-use Rattle.client_rules.specs.Rules.{faults_of_body}
-use Rattle.client_rules.specs.Settings.{Header, Setting, Variable, header_of, statics_from}
-use Rattle.client_rules.specs.Trees.{Item, items_of, procedures_in, statics_in}
+use Rattle.client_model.specs.Bodies.{before_initialiser, bodies_from}
+use Rattle.client_points.specs.Wholes.{Whole, with_bodies}
+use Rattle.client_model.specs.Checked.{procedure_seen}
+use Rattle.client_model.specs.Faults.{Fault, comes_before}
+use Rattle.client_model.specs.Rules.{faults_of_body}
+use Rattle.client_model.specs.Settings.{Header, Setting, Variable, header_of, statics_from}
+use Rattle.client_model.specs.Trees.{Item, items_of, procedures_in, statics_in}
 use Rattle.client_values.specs.Knowing.{Knows}
 use Rattle.client_values.specs.ToldFaults.{fault_told}
 use Rattle.easl_model.specs.Faults.{first_with}
@@ -39,3 +41,15 @@ abbrev pub first_in_end : Setting → Client → Progress → List Bool → Opti
 first_in_end s client p order =
     let items = items_behind client p.start.points p.procedures order
     in first_with comes_before (option_map fault_told p.found) (flat_map faults_of_body (bodies_from s p.start.points (suc p.procedures) p.start.calls items))
+
+-- what is written so far
+abbrev pub so_far : Progress → Whole
+so_far p = record { initial = p.written.points; procedures = map procedure_seen p.forms; calls = p.written.calls }
+
+abbrev pub nothing_yet : Whole
+nothing_yet = record { initial = []; procedures = []; calls = [] }
+
+-- that, and what is written of the items in this order behind these
+abbrev pub all_in_end : Setting → Client → Progress → List Bool → Whole
+all_in_end s client p order =
+    with_bodies s.form (bodies_from s p.start.points (suc p.procedures) p.start.calls (items_behind client p.start.points p.procedures order)) (so_far p)

@@ -5,12 +5,12 @@ use Rattle.client_bodies.specs.declared.blocks.Outside.{Outside}
 use Rattle.client_model.specs.Statements.{Statement, Statements, statement_of, statements}
 use Rattle.client_model.specs.declared.tree.Rhs.{Rhs}
 use Rattle.client_model.specs.declared.tree.Stmt.{Stmt}
-use Rattle.client_rules.specs.Bodies.{codes_of}
-use Rattle.client_rules.specs.BodyFaults.{faults_at}
-use Rattle.client_rules.specs.Codes.{variable_code}
-use Rattle.client_rules.specs.Contexts.{Context, after_all, behind_block, counting, declared, ends_going_on, entered, evaluated, meet, situated, situated_in, with_code}
-use Rattle.client_rules.specs.Faults.{Fault}
-use Rattle.client_rules.specs.Settings.{Setting}
+use Rattle.client_model.specs.Bodies.{codes_of}
+use Rattle.client_model.specs.BodyFaults.{faults_at}
+use Rattle.client_model.specs.Codes.{variable_code}
+use Rattle.client_model.specs.Contexts.{Context, after_all, behind_block, counting, declared, ends_going_on, entered, evaluated, meet, situated, situated_in, with_code}
+use Rattle.client_model.specs.Faults.{Fault}
+use Rattle.client_model.specs.Settings.{Setting}
 use Rattle.client_values.specs.declared.context.Assigned.{Assigned}
 use Rattle.client_values.specs.declared.context.Context.{Context as Known}
 use Rattle.easl_model.specs.declared.tree.Sort.{Sort}

@@ -2,12 +2,12 @@
 ghost use Rattle.std.specs.Prelude.{◌≡◌, None, OnOk, Some};
 ghost use Rattle.client_bodies.specs.Walking.{Grows, initialised};
 ghost use Rattle.client_model.specs.Statements as trees;
-ghost use Rattle.client_rules.specs.Contexts as told;
+ghost use Rattle.client_model.specs.Contexts as told;
 ghost use Rattle.client_values.specs.Knowing.{Knows};
 
-use crate::steps::{assign, call_count, declare, evaluate, mark, stop, variable_code};
+use crate::steps::{assign, call_count, declare, evaluate, mark, stop};
 use client_model::Rhs;
-use client_values::{Context, Setting};
+use client_values::{Context, Setting, variable_code};
 use easl_model::{Sort, Word};
 use std::alloc::{AllocError, Global};
 

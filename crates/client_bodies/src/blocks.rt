@@ -3,7 +3,7 @@ ghost use Rattle.std.specs.Prelude.{◌≡◌, ◌&&◌, ◌||◌, ◌++◌, [],
 ghost use Rattle.client_bodies.specs.Walking.{Grows, is_among, outside_of, own_of, put_back};
 ghost use Rattle.client_values.specs.Knowing.{is_marked};
 
-use client_values::{Assigned, Context, Fault, Variable, has};
+use client_values::{Assigned, Context, Fault, has};
 use sqlite_items::Items;
 use std::alloc::{AllocError, Global};
 
@@ -28,15 +28,6 @@ pub(crate) fn outside_of(context: &Context) -> Outside
         everything: context.assigned.everything,
         reached: context.reached,
         looped: context.looped,
-    }
-}
-
-/// Takes away the variables behind the first so many.
-fn cut_scope(scope: &mut Items<Variable>, kept: usize)
-    ensures { scope.new ≡ take kept scope.old }
-{
-    'each: while scope.len() > kept {
-        scope.pop();
     }
 }
 
@@ -72,7 +63,7 @@ pub(crate) fn leave(
 {
     let codes = codes_behind(alloc, context.assigned.codes.as_slice(), outside.codes)?;
     let everything = context.assigned.everything || !goes_on;
-    cut_scope(&mut context.scope, outside.scope);
+    context.scope.truncate(outside.scope);
     cut_codes(&mut context.assigned.codes, outside.codes);
     context.assigned.everything = outside.everything;
     context.reached = outside.reached;

@@ -1,14 +1,19 @@
-//! The first fault of the initialisers and bodies of a client.
-ghost use Rattle.std.specs.Prelude.{◌≡◌, ◌+◌, ◌∷◌, Bool, List, IfOk, OnOk, false, option_map, true};
+//! The first fault of the initialisers and bodies of a client, and what is written of them.
+ghost use Rattle.std.specs.Prelude.{◌≡◌, ◌+◌, ◌∷◌, ◌++◌, Bool, List, IfOk, OnOk, false, filter_map, option_map, true};
 ghost use Rattle.std.specs.List.{flat_map};
-ghost use Rattle.client_bodies.specs.InTextOrder.{Stands, first_in_end};
+ghost use Rattle.client_bodies.specs.InTextOrder.{Stands, all_in_end, first_in_end, nothing_yet, so_far};
 ghost use Rattle.client_bodies.specs.Walking.{IsBare};
-ghost use Rattle.client_rules.specs.Bodies.{bodies_from, body_of, end_of};
-ghost use Rattle.client_rules.specs.BodyFaults as told;
-ghost use Rattle.client_rules.specs.Faults.{first_of};
-ghost use Rattle.client_rules.specs.Rules.{faults_of_bodies, faults_of_body};
-ghost use Rattle.client_rules.specs.Settings.{inside};
-ghost use Rattle.client_rules.specs.Trees.{client_of, procedure_of};
+ghost use Rattle.client_points.specs.Wholes.{AreBodies, with_bodies};
+ghost use Rattle.client_points.specs.Writing.{written_with};
+ghost use Rattle.client_model.specs.Bodies.{all_in, bodies_from, body_of, end_of};
+ghost use Rattle.client_model.specs.BodyFaults as told;
+ghost use Rattle.client_model.specs.Checked.{procedure_seen, without_set};
+ghost use Rattle.client_model.specs.CheckedForm.{procedure_form};
+ghost use Rattle.client_model.specs.Faults.{first_of};
+ghost use Rattle.client_model.specs.Points.{site_at};
+ghost use Rattle.client_model.specs.Rules.{faults_of_bodies, faults_of_body};
+ghost use Rattle.client_model.specs.Settings.{inside};
+ghost use Rattle.client_model.specs.Trees.{client_of, procedure_of};
 ghost use Rattle.client_values.specs.ToldFaults.{Finds, fault_told};
 ghost use Rattle.easl_model.specs.CheckedForm.{has_values};
 
@@ -17,19 +22,25 @@ use crate::starts::{bare_entry, before_first, enter_body, pass_initialiser};
 use crate::statements::{all_go_on, faults_of_assigned};
 use crate::tables::tables_of;
 use crate::walk::faults_of_statements;
-use client_model::{Client, Proc};
+use client_model::{CallSite, Client, Proc, Procedure};
+use client_points::{Bodies, Written, classes_of, procedure_form, statics_form};
 use client_values::{Context, Fault, Kind, Rule, Setting, kind_of, note_if};
 use easl_model::{CheckedSpec, Sort};
+use sqlite_items::Items;
 use std::alloc::{AllocError, Global};
+use std::mem;
 
 /// Before an item of a client: what stands before the next initialiser, what stands at the entry of a procedure without
-/// parameters, how many procedures stand before the item, and the first fault so far.
+/// parameters, how many procedures stand before the item, the first fault so far, what is written of the start and which calls
+/// are made, and the forms of the procedures.
 #[derive(Drop)]
 pub(crate) struct Progress {
     pub(crate) start: Context,
     pub(crate) entry: Context,
     pub(crate) procedures: u32,
     pub(crate) found: Option<Fault>,
+    pub(crate) written: Written,
+    pub(crate) forms: Items<Procedure>,
 }
 
 /// In the procedure of this number.
@@ -70,6 +81,7 @@ fn next(procedures: u32) -> Result<u32, AllocError>
 }
 
 /// The first fault of the body of the procedure of this number, behind so many calls, and how many calls stand before its end.
+/// The body is written.
 fn faults_of_procedure(
     alloc: Global,
     setting: &Setting<'_>,
@@ -77,24 +89,91 @@ fn faults_of_procedure(
     number: u32,
     procedure: &Proc,
     calls: u32,
+    written: &mut Written,
     found: Option<Fault>,
 ) -> Result<(Option<Fault>, u32), AllocError>
     requires { IsBare setting.now entry.old }
     ensures found { IfOk result (λ r. Finds found r.0 (faults_of_body (body_of setting.now number calls (procedure_of procedure.now)))) }
     ensures calls { IfOk result (λ r. r.1 ≡ (end_of (body_of setting.now number calls (procedure_of procedure.now))).calls) }
+    ensures written { OnOk result (written.new ≡ written_with (all_in (body_of setting.now number calls (procedure_of procedure.now))) written.old) }
     ensures bare { OnOk result (IsBare setting.now entry.new) }
 {
     let outside = outside_of(entry);
     enter_body(alloc, setting, entry, procedure.params.as_slice(), calls)?;
     let within = inside(setting, number, procedure);
-    let found = faults_of_statements(alloc, &within, entry, procedure.body.as_slice(), found)?;
+    let found = faults_of_statements(
+        alloc,
+        &within,
+        entry,
+        procedure.body.as_slice(),
+        written,
+        found,
+    )?;
     let calls = entry.calls;
     leave(alloc, entry, outside, true)?;
     Ok((no_return(procedure, found), calls))
 }
 
+/// What is known behind a procedure: the first fault so far, its form, the calls of the client so far, and how many these are.
+#[derive(Drop)]
+struct Passed {
+    found: Option<Fault>,
+    form: Procedure,
+    calls: Items<CallSite>,
+    count: u32,
+}
+
+/// Passes the procedure of this number, behind these calls, which are so many.
+fn pass_body(
+    alloc: Global,
+    setting: &Setting<'_>,
+    entry: &mut Context,
+    number: u32,
+    procedure: &Proc,
+    calls: Items<CallSite>,
+    count: u32,
+    found: Option<Fault>,
+) -> Result<Passed, AllocError>
+    requires { IsBare setting.now entry.old }
+    ensures found { IfOk result (λ p. Finds found p.found (faults_of_body (body_of setting.now number count (procedure_of procedure.now)))) }
+    ensures count { IfOk result (λ p. p.count ≡ (end_of (body_of setting.now number count (procedure_of procedure.now))).calls) }
+    ensures form { IfOk result (λ p. procedure_seen p.form
+        ≡ without_set (procedure_form setting.now.form (body_of setting.now number count (procedure_of procedure.now)) (procedure_of procedure.now))) }
+    ensures calls { IfOk result (λ p. p.calls ≡ calls ++ filter_map site_at (all_in (body_of setting.now number count (procedure_of procedure.now)))) }
+    ensures bare { OnOk result (IsBare setting.now entry.new) }
+{
+    let mut written = Written {
+        points: Items::new(alloc),
+        variables: classes_of(alloc, setting.spec, procedure.params.as_slice())?,
+        calls,
+    };
+    let (found, count) = faults_of_procedure(
+        alloc,
+        setting,
+        entry,
+        number,
+        procedure,
+        count,
+        &mut written,
+        found,
+    )?;
+    let Written {
+        points,
+        variables,
+        calls,
+    } = written;
+    let form = procedure_form(alloc, setting.spec, procedure, points, variables)?;
+    Ok(Passed {
+        found,
+        form,
+        calls,
+        count,
+    })
+}
+
 /// Passes the next initialiser, where there is one.
 fn pass_static(
+    alloc: Global,
     setting: &Setting<'_>,
     client: &Client,
     progress: &mut Progress,
@@ -103,6 +182,8 @@ fn pass_static(
     ensures stands { OnOk result (Stands setting.now progress.new) }
     ensures first { OnOk result ((order : List Bool)
         → first_in_end setting.now client.now progress.new order ≡ first_in_end setting.now client.now progress.old (true ∷ order)) }
+    ensures all { OnOk result ((order : List Bool)
+        → all_in_end setting.now client.now progress.new order ≡ all_in_end setting.now client.now progress.old (true ∷ order)) }
 {
     match client.statics.get(progress.start.points as usize) {
         Some(x) => {
@@ -113,6 +194,9 @@ fn pass_static(
                 &x.value,
                 progress.found,
             );
+            progress
+                .written
+                .note_assigned(alloc, setting, &progress.start, &x.name, &x.value)?;
             pass_initialiser(setting, &mut progress.start, &x.value)?;
             progress.found = found;
             Ok(())
@@ -132,23 +216,28 @@ fn pass_procedure(
     ensures stands { OnOk result (Stands setting.now progress.new) }
     ensures first { OnOk result ((order : List Bool)
         → first_in_end setting.now client.now progress.new order ≡ first_in_end setting.now client.now progress.old (false ∷ order)) }
+    ensures all { OnOk result ((order : List Bool)
+        → all_in_end setting.now client.now progress.new order ≡ all_in_end setting.now client.now progress.old (false ∷ order)) }
 {
     match client.procedures.get(progress.procedures as usize) {
         Some(procedure) => {
             let number = next(progress.procedures)?;
-            let calls = progress.start.calls;
-            let (found, calls) = faults_of_procedure(
+            let calls = mem::replace(&mut progress.written.calls, Items::new(alloc));
+            let passed = pass_body(
                 alloc,
                 setting,
                 &mut progress.entry,
                 number,
                 procedure,
                 calls,
+                progress.start.calls,
                 progress.found,
             )?;
-            progress.start.calls = calls;
+            progress.forms.push(passed.form)?;
+            progress.written.calls = passed.calls;
+            progress.start.calls = passed.count;
             progress.procedures = number;
-            progress.found = found;
+            progress.found = passed.found;
             Ok(())
         }
         None => Ok(()),
@@ -167,49 +256,69 @@ fn pass_item(
     ensures stands { OnOk result (Stands setting.now progress.new) }
     ensures first { OnOk result ((order : List Bool)
         → first_in_end setting.now client.now progress.new order ≡ first_in_end setting.now client.now progress.old (is_static ∷ order)) }
+    ensures all { OnOk result ((order : List Bool)
+        → all_in_end setting.now client.now progress.new order ≡ all_in_end setting.now client.now progress.old (is_static ∷ order)) }
 {
     if is_static {
-        pass_static(setting, client, progress)
+        pass_static(alloc, setting, client, progress)
     } else {
         pass_procedure(alloc, setting, client, progress)
     }
 }
 
-/// The first fault of the items.
-fn faults_of_items(
-    alloc: Global,
-    setting: &Setting<'_>,
-    client: &Client,
-) -> Result<Option<Fault>, AllocError>
-    ensures { IfOk result (λ f. option_map fault_told f ≡ first_of (flat_map faults_of_body (bodies_from setting.now 0 1 0 (client_of client.now).items))) }
+/// Passes all items.
+fn pass_items(alloc: Global, setting: &Setting<'_>, client: &Client) -> Result<Progress, AllocError>
+    ensures first { IfOk result (λ p. option_map fault_told p.found ≡ first_of (flat_map faults_of_body (bodies_from setting.now 0 1 0 (client_of client.now).items))) }
+    ensures all { IfOk result (λ p. so_far p ≡ with_bodies setting.now.form (bodies_from setting.now 0 1 0 (client_of client.now).items) nothing_yet) }
 {
     let mut progress = Progress {
         start: before_first(alloc),
         entry: bare_entry(alloc, setting)?,
         procedures: 0,
         found: None,
+        written: Written {
+            points: Items::new(alloc),
+            variables: Items::new(alloc),
+            calls: Items::new(alloc),
+        },
+        forms: Items::new(alloc),
     };
     'each: for is_static in client.order.as_slice() {
         pass_item(alloc, setting, client, *is_static, &mut progress)?;
     }
-    Ok(progress.found)
+    Ok(progress)
 }
 
-/// The first fault of the initialisers and bodies of a client.
+/// The first fault of the initialisers and bodies of a client, and what is written of them.
 pub fn first_in_bodies(
     alloc: Global,
     spec: &CheckedSpec,
     client: &Client,
-) -> Result<Option<Fault>, AllocError>
-    ensures { IfOk result (λ f. option_map fault_told f ≡ first_of (faults_of_bodies spec.now (client_of client.now))) }
+) -> Result<(Option<Fault>, Bodies), AllocError>
+    ensures first { IfOk result (λ r. option_map fault_told r.0 ≡ first_of (faults_of_bodies spec.now (client_of client.now))) }
+    ensures bodies { IfOk result (λ r. AreBodies spec.now (client_of client.now) r.1) }
 {
     let tables = tables_of(alloc, spec, client)?;
     let setting = Setting {
         spec,
-        statics: tables.statics.as_slice(),
-        procedures: tables.procedures.as_slice(),
+        statics: &tables.statics,
+        procedures: &tables.procedures,
         procedure: 0,
         result: Kind::Void,
     };
-    faults_of_items(alloc, &setting, client)
+    let progress = pass_items(alloc, &setting, client)?;
+    let statics = statics_form(alloc, tables.statics.as_slice())?;
+    let Progress {
+        found,
+        written,
+        forms,
+        ..
+    } = progress;
+    let bodies = Bodies {
+        statics,
+        initial: written.points,
+        procedures: forms,
+        calls: written.calls,
+    };
+    Ok((found, bodies))
 }

@@ -2,18 +2,18 @@
 ghost use Rattle.std.specs.Prelude.{◌≡◌, ◌+◌, ◌++◌, ℕ, IfOk, OnOk, length, suc};
 ghost use Rattle.client_bodies.specs.Walking.{Grows, IsBare};
 ghost use Rattle.client_model.specs.declared.tree.Rhs.{Rhs};
-ghost use Rattle.client_rules.specs.Bodies as told;
-ghost use Rattle.client_rules.specs.Codes as codes;
-ghost use Rattle.client_rules.specs.Contexts.{call_count};
-ghost use Rattle.client_rules.specs.Settings.{Setting};
+ghost use Rattle.client_model.specs.Bodies as told;
+ghost use Rattle.client_model.specs.Codes as codes;
+ghost use Rattle.client_model.specs.Contexts.{call_count};
+ghost use Rattle.client_model.specs.Settings.{Setting};
 ghost use Rattle.client_values.specs.Knowing.{Knows};
 
-use crate::steps::{call_count, evaluate, mark, variable_code};
+use crate::steps::{call_count, evaluate, mark};
 use crate::tables::variable_as;
 use client_model::Rhs;
-use client_values::{Assigned, Context, Setting, Variable, kind_of};
+use client_values::{Assigned, Context, Scope, Setting, Variable, kind_of, variable_code};
 use easl_model::{CheckedSpec, Param};
-use sqlite_items::{Items, at};
+use sqlite_items::Items;
 use std::alloc::{AllocError, Global};
 
 /// Before the first initialiser.
@@ -21,7 +21,7 @@ pub(crate) fn before_first(alloc: Global) -> Context
     ensures { (s : Setting) → Knows (told.before_initialiser s 0 0) result }
 {
     Context {
-        scope: Items::new(alloc),
+        scope: Scope::new(alloc),
         assigned: Assigned {
             codes: Items::new(alloc),
             everything: false,
@@ -45,7 +45,7 @@ pub(crate) fn pass_initialiser(
 {
     let number = context.points as usize;
     evaluate(context, call_count(value))?;
-    match at(setting.statics, number) {
+    match setting.statics.at(number) {
         Some(variable) => {
             mark(context, variable.code)?;
             Ok(())
@@ -65,14 +65,10 @@ fn code_of(number: usize) -> Result<u32, AllocError>
 }
 
 /// The parameters as variables.
-fn variables_of(
-    alloc: Global,
-    spec: &CheckedSpec,
-    params: &[Param],
-) -> Result<Items<Variable>, AllocError>
+fn variables_of(alloc: Global, spec: &CheckedSpec, params: &[Param]) -> Result<Scope, AllocError>
     ensures { IfOk result (λ variables. variables ≡ told.params_from spec.now 0 params.now) }
 {
-    let mut variables = Items::new(alloc);
+    let mut variables = Scope::new(alloc);
     'each: for number in 0..params.len() {
         let param = &params[number];
         let kind = kind_of(spec, &param.sort);
@@ -97,9 +93,9 @@ pub(crate) fn bare_entry(alloc: Global, setting: &Setting<'_>) -> Result<Context
     ensures { IfOk result (λ entry. IsBare setting.now entry) }
 {
     let mut codes = Items::new(alloc);
-    add_codes(&mut codes, setting.statics)?;
+    add_codes(&mut codes, setting.statics.as_slice())?;
     Ok(Context {
-        scope: Items::new(alloc),
+        scope: Scope::new(alloc),
         assigned: Assigned {
             codes,
             everything: false,

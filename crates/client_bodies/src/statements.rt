@@ -5,11 +5,11 @@ ghost use Rattle.client_values.specs.ToldFaults.{Finds};
 ghost use Rattle.client_bodies.specs.Walking.{block, faults_here};
 ghost use Rattle.client_model.specs.Statements as trees;
 ghost use Rattle.client_model.specs.Statements.{statement_of};
-ghost use Rattle.client_rules.specs.BodyFaults as told;
-ghost use Rattle.client_rules.specs.Contexts as contexts;
-ghost use Rattle.client_rules.specs.HeaderFaults.{no_type};
-ghost use Rattle.client_rules.specs.Settings.{kind_of};
-ghost use Rattle.client_rules.specs.Trees.{place_of};
+ghost use Rattle.client_model.specs.BodyFaults as told;
+ghost use Rattle.client_model.specs.Contexts as contexts;
+ghost use Rattle.client_model.specs.HeaderFaults.{no_type};
+ghost use Rattle.client_model.specs.Settings.{kind_of};
+ghost use Rattle.client_model.specs.Trees.{place_of};
 
 use client_model::{Rhs, Stmt};
 use client_values::{

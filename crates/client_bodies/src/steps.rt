@@ -1,15 +1,14 @@
 //! From what stands before a statement to what stands behind it.
-ghost use Rattle.std.specs.Prelude.{◌≡◌, ◌∷◌, ◌++◌, [], IfOk, Option, OnOk, option_map};
+ghost use Rattle.std.specs.Prelude.{◌≡◌, ◌∷◌, ◌++◌, [], Option, OnOk, option_map};
 ghost use Rattle.std.specs.Option.{option_map_or};
 ghost use Rattle.client_values.specs.Knowing.{Knows};
 ghost use Rattle.client_bodies.specs.Walking.{Grows};
 ghost use Rattle.client_model.specs.declared.tree.Rhs.{Rhs};
-ghost use Rattle.client_rules.specs.Codes as codes;
-ghost use Rattle.client_rules.specs.Contexts as told;
-ghost use Rattle.client_rules.specs.Settings.{variable_named};
+ghost use Rattle.client_model.specs.Contexts as told;
+ghost use Rattle.client_model.specs.Settings.{variable_named};
 
 use client_model::{Rhs, Test};
-use client_values::{Context, Setting, Variable, kind_of, variable_named};
+use client_values::{Context, Setting, Variable, kind_of, variable_code, variable_named};
 use easl_model::{Name, Sort, Word};
 use std::alloc::{AllocError, Global};
 
@@ -42,16 +41,6 @@ pub(crate) fn evaluate(context: &mut Context, calls: u32) -> Result<(), AllocErr
     context.points = context.points.checked_add(1).ok_or(AllocError)?;
     context.calls = context.calls.checked_add(calls).ok_or(AllocError)?;
     Ok(())
-}
-
-/// The code of the variable of this number. Codes that run out are want of memory.
-pub(crate) fn variable_code(number: u32) -> Result<u32, AllocError>
-    ensures { IfOk result (λ code. code ≡ codes.variable_code number) }
-{
-    if number >= u32::MAX / 4 {
-        return Err(AllocError);
-    }
-    Ok(4 * number + 1)
 }
 
 /// Declares a local.

@@ -1,13 +1,13 @@
 //! The statics of a client and the headers of its procedures, by number.
 ghost use Rattle.std.specs.Prelude.{◌≡◌, ◌∷◌, Bool, List, IfOk, OnOk, false, map, true};
 ghost use Rattle.client_bodies.specs.InTextOrder.{headers_in_end, statics_in_end};
-ghost use Rattle.client_rules.specs.Codes as codes;
-ghost use Rattle.client_rules.specs.Settings as told;
-ghost use Rattle.client_rules.specs.Trees.{client_of, procedure_of, procedures_in, statics_in};
+ghost use Rattle.client_model.specs.Codes as codes;
+ghost use Rattle.client_model.specs.Settings as told;
+ghost use Rattle.client_model.specs.Trees.{client_of, procedure_of, procedures_in, statics_in};
 ghost use Rattle.client_values.specs.ToldKinds.{kind_told};
 
 use client_model::{Client, Proc, Static};
-use client_values::{Header, Kind, Variable, kind_of};
+use client_values::{Header, Headers, Kind, Scope, Variable, kind_of};
 use easl_model::{CheckedSpec, Name, Param};
 use sqlite_items::Items;
 use std::alloc::{AllocError, Global};
@@ -15,8 +15,8 @@ use std::alloc::{AllocError, Global};
 /// The statics, and the headers of the procedures, in text order.
 #[derive(Drop)]
 pub(crate) struct Tables {
-    pub(crate) statics: Items<Variable>,
-    pub(crate) procedures: Items<Header>,
+    pub(crate) statics: Scope,
+    pub(crate) procedures: Headers,
 }
 
 fn copy_of(alloc: Global, name: &Name) -> Result<Name, AllocError>
@@ -161,8 +161,8 @@ pub(crate) fn tables_of(
     ensures headers { IfOk result (λ t. t.procedures ≡ map (told.header_of spec.now) (procedures_in (client_of client.now).items)) }
 {
     let mut tables = Tables {
-        statics: Items::new(alloc),
-        procedures: Items::new(alloc),
+        statics: Scope::new(alloc),
+        procedures: Headers::new(alloc),
     };
     'each: for is_static in client.order.as_slice() {
         add_item(alloc, spec, client, *is_static, &mut tables)?;

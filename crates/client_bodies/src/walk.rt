@@ -1,8 +1,9 @@
-//! The first fault of the statements of a block, in one walk that goes behind them.
+//! The first fault of the statements of a block, and what is written of them, in one walk that goes behind them.
 ghost use Rattle.std.specs.Prelude.{◌≡◌, ◌||◌, ℕ, IfOk, OnOk};
 ghost use Rattle.client_bodies.specs.Walking.{Grows, block, faults_inside, faults_of_trees, is_among};
 ghost use Rattle.client_model.specs.Statements.{statement_of};
-ghost use Rattle.client_rules.specs.Contexts as told;
+ghost use Rattle.client_points.specs.Writing.{written_with};
+ghost use Rattle.client_model.specs.Contexts as told;
 ghost use Rattle.client_values.specs.Knowing.{Knows, is_marked};
 ghost use Rattle.client_values.specs.ToldFaults.{Finds};
 
@@ -13,6 +14,7 @@ use crate::blocks::{Block, join, leave, outside_of};
 use crate::statements::{all_go_on, faults_at};
 use crate::steps::{call_count_of_test, enter, evaluate};
 use client_model::{Stmt, Test};
+use client_points::Written;
 use client_values::{Context, Fault, Setting};
 use std::alloc::{AllocError, Global};
 
@@ -23,16 +25,19 @@ pub fn faults_of_statements(
     setting: &Setting<'_>,
     context: &mut Context,
     items: &[Stmt],
+    written: &mut Written,
     start: Option<Fault>,
 ) -> Result<Option<Fault>, AllocError>
     ensures found { IfOk result (λ f. (c : told.Context) → Knows c context.old → Finds start f (faults_of_trees setting.now c (block items.now))) }
     ensures behind { OnOk result ((c : told.Context) → Knows c context.old → Knows (told.after_all setting.now c (block items.now)) context.new) }
+    ensures written { OnOk result ((c : told.Context) → Knows c context.old → written.new ≡ written_with (told.situated setting.now c (block items.now)) written.old) }
     ensures grows { OnOk result (Grows context.old.assigned context.new.assigned) }
 {
     let mut found = start;
     'each: for item in items {
+        written.note(alloc, setting, context, item)?;
         let here = faults_at(setting, context, item, found);
-        found = faults_inside(alloc, setting, context, item, here)?;
+        found = faults_inside(alloc, setting, context, item, written, here)?;
     }
     Ok(found)
 }
@@ -44,10 +49,12 @@ fn faults_inside(
     setting: &Setting<'_>,
     context: &mut Context,
     item: &Stmt,
+    written: &mut Written,
     found: Option<Fault>,
 ) -> Result<Option<Fault>, AllocError>
     ensures found { IfOk result (λ f. (c : told.Context) → Knows c context.old → Finds found f (faults_inside setting.now c (statement_of item.now))) }
     ensures behind { OnOk result ((c : told.Context) → Knows c context.old → Knows (told.after setting.now c (statement_of item.now)) context.new) }
+    ensures written { OnOk result ((c : told.Context) → Knows c context.old → written.new ≡ written_with (told.situated_in setting.now c (statement_of item.now)) written.old) }
     ensures grows { OnOk result (Grows context.old.assigned context.new.assigned) }
 {
     match item {
@@ -69,8 +76,15 @@ fn faults_inside(
         }
         Stmt::If(_, test, first, second, _) => {
             evaluate(context, call_count_of_test(test))?;
-            let one = faults_of_block(alloc, setting, context, first.as_slice(), found)?;
-            let other = faults_of_block(alloc, setting, context, second.as_slice(), one.found)?;
+            let one = faults_of_block(alloc, setting, context, first.as_slice(), written, found)?;
+            let other = faults_of_block(
+                alloc,
+                setting,
+                context,
+                second.as_slice(),
+                written,
+                one.found,
+            )?;
             join(context, &one, &other)?;
             Ok(other.found)
         }
@@ -80,6 +94,7 @@ fn faults_inside(
             context,
             test,
             inner.as_slice(),
+            written,
             found,
         ),
         Stmt::Break(_) | Stmt::Continue(_) | Stmt::Return(_) => {
@@ -97,18 +112,21 @@ fn faults_of_while(
     context: &mut Context,
     test: &Test,
     items: &[Stmt],
+    written: &mut Written,
     start: Option<Fault>,
 ) -> Result<Option<Fault>, AllocError>
     ensures found { IfOk result (λ f. (c : told.Context) → Knows c context.old
         → Finds start f (faults_of_trees setting.now (told.looping (told.evaluated (told.value_of_test test.now) c)) (block items.now))) }
     ensures behind { OnOk result ((c : told.Context) → Knows c context.old
         → Knows (told.counting c (told.after_all setting.now (told.looping (told.evaluated (told.value_of_test test.now) c)) (block items.now))) context.new) }
+    ensures written { OnOk result ((c : told.Context) → Knows c context.old
+        → written.new ≡ written_with (told.situated setting.now (told.looping (told.evaluated (told.value_of_test test.now) c)) (block items.now)) written.old) }
     ensures assigned { OnOk result (context.new.assigned ≡ context.old.assigned) }
 {
     evaluate(context, call_count_of_test(test))?;
     let looped = context.looped;
     context.looped = true;
-    let inner = faults_of_block(alloc, setting, context, items, start)?;
+    let inner = faults_of_block(alloc, setting, context, items, written, start)?;
     context.looped = looped;
     Ok(inner.found)
 }
@@ -120,12 +138,15 @@ fn faults_of_block(
     setting: &Setting<'_>,
     context: &mut Context,
     items: &[Stmt],
+    written: &mut Written,
     start: Option<Fault>,
 ) -> Result<Block, AllocError>
     ensures found { IfOk result (λ b. (c : told.Context) → Knows c context.old → Finds start b.found (faults_of_trees setting.now (told.entered c) (block items.now))) }
     ensures goes_on { IfOk result (λ b. b.goes_on ≡ told.ends_going_on (block items.now)) }
     ensures behind { OnOk result ((c : told.Context) → Knows c context.old
         → Knows (told.counting c (told.after_all setting.now (told.entered c) (block items.now))) context.new) }
+    ensures written { OnOk result ((c : told.Context) → Knows c context.old
+        → written.new ≡ written_with (told.situated setting.now (told.entered c) (block items.now)) written.old) }
     ensures kept { OnOk result (context.new.assigned ≡ context.old.assigned) }
     ensures assigned { IfOk result (λ b. (c : told.Context) → Knows c context.old → (code : ℕ)
         → told.has (told.behind_block (block items.now) (told.after_all setting.now (told.entered c) (block items.now))) code
@@ -133,7 +154,7 @@ fn faults_of_block(
 {
     let outside = outside_of(context);
     enter(context);
-    let found = faults_of_statements(alloc, setting, context, items, start)?;
+    let found = faults_of_statements(alloc, setting, context, items, written, start)?;
     let goes_on = all_go_on(true, items);
     let assigned = leave(alloc, context, outside, goes_on)?;
     Ok(Block {

@@ -1,6 +1,6 @@
 use Rattle.std.proofs.Common.{sym}
 use Rattle.std.specs.Prelude.{Some}
-use Rattle.client_rules.specs.Contexts.{evaluated}
+use Rattle.client_model.specs.Contexts.{evaluated}
 use Rattle.client_bodies.proofs.behind.behind_assigned.Goals as goal
 
 pub returns-clause-behind : goal.returns-clause-behind

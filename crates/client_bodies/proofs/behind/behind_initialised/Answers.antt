@@ -1,8 +1,8 @@
 use Rattle.std.proofs.Common.{ap, subst, sym, ◌∙◌}
 use Rattle.std.specs.Prelude.{Some}
 use Rattle.client_values.specs.Knowing.{Knows}
-use Rattle.client_rules.specs.Codes.{variable_code}
-use Rattle.client_rules.specs.Contexts.{declared, evaluated, with_code}
+use Rattle.client_model.specs.Codes.{variable_code}
+use Rattle.client_model.specs.Contexts.{declared, evaluated, with_code}
 use Rattle.client_bodies.proofs.behind.behind_initialised.Goals as goal
 
 pub returns-clause-behind : goal.returns-clause-behind

@@ -1,6 +1,6 @@
 use Rattle.std.specs.Prelude.{None}
 use Rattle.std.proofs.Common.{refl}
-use Rattle.client_rules.specs.Contexts.{evaluated}
+use Rattle.client_model.specs.Contexts.{evaluated}
 use Rattle.client_bodies.proofs.behind.behind_stopped.Goals as goal
 
 pub returns-clause-behind : goal.returns-clause-behind

@@ -1,5 +1,5 @@
 use Rattle.std.proofs.Common.{◌≡◌, ◌++◌, take}
-use Rattle.client_rules.specs.Bodies.{codes_of}
+use Rattle.client_model.specs.Bodies.{codes_of}
 use Rattle.client_bodies.proofs.starts.add_codes.Given as goal
 
 abbrev pub invariant-each : goal.invariant-each

@@ -1,6 +1,6 @@
 use Rattle.std.proofs.Common.{ap, length, refl, ◌++◌, ◌∙◌}
 use Rattle.client_bodies.proofs.Started.{entered}
-use Rattle.client_rules.specs.Bodies.{codes_of, params_from}
+use Rattle.client_model.specs.Bodies.{codes_of, params_from}
 use Rattle.client_bodies.proofs.starts.enter_body.Goals as goal
 
 pub returns-clause-entry : goal.returns-clause-entry

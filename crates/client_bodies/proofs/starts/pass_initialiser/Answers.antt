@@ -1,8 +1,8 @@
 use Rattle.std.proofs.Common.{ap, sym, ◌+◌, ◌∙◌}
 use Rattle.std.specs.Prelude.{Some, slice_get}
 use Rattle.client_bodies.proofs.Started.{marked, unmarked}
-use Rattle.client_rules.specs.Bodies.{before_initialiser}
-use Rattle.client_rules.specs.Contexts.{call_count, evaluated}
+use Rattle.client_model.specs.Bodies.{before_initialiser}
+use Rattle.client_model.specs.Contexts.{call_count, evaluated}
 use Rattle.client_bodies.proofs.starts.pass_initialiser.Goals as goal
 
 pub returns-in_ok-mark-in-Some : goal.returns-in_ok-mark-in-Some

@@ -1,5 +1,5 @@
 use Rattle.std.proofs.Common.{◌≡◌, ◌++◌, drop}
-use Rattle.client_rules.specs.Bodies.{params_from}
+use Rattle.client_model.specs.Bodies.{params_from}
 use Rattle.client_bodies.proofs.starts.variables_of.Given as goal
 
 abbrev pub invariant-each : goal.invariant-each

@@ -1,6 +1,6 @@
 use Rattle.std.proofs.Common.{subst}
 use Rattle.client_values.specs.ToldFaults.{Finds}
-use Rattle.client_rules.specs.Faults.{Duplicate, broken_if}
+use Rattle.client_model.specs.Faults.{Duplicate, broken_if}
 use Rattle.client_bodies.proofs.statements.named_twice.Goals as goal
 
 pub returns : goal.returns

@@ -1,5 +1,5 @@
 use Rattle.std.proofs.Common.{◌≡◌, map, take}
-use Rattle.client_rules.specs.Settings.{kind_of}
+use Rattle.client_model.specs.Settings.{kind_of}
 use Rattle.client_values.specs.ToldKinds.{kind_told}
 use Rattle.client_bodies.proofs.tables.kinds_of.Given as goal
 

@@ -1,7 +1,7 @@
 use Rattle.std.proofs.Common.{◌≡◌, drop, map}
 use Rattle.client_bodies.specs.InTextOrder.{headers_in_end, statics_in_end}
-use Rattle.client_rules.specs.Settings.{header_of, statics_from}
-use Rattle.client_rules.specs.Trees.{client_of, procedures_in, statics_in}
+use Rattle.client_model.specs.Settings.{header_of, statics_from}
+use Rattle.client_model.specs.Trees.{client_of, procedures_in, statics_in}
 use Rattle.client_bodies.proofs.tables.tables_of.Given as goal
 
 abbrev pub invariant-each : goal.invariant-each
