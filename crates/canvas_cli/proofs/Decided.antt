@@ -1,54 +1,123 @@
 -- From what is read to what the texts decide.
-use Rattle.std.proofs.Common.{◌≡◌, ℕ, ◌≤◌, Bool, List, None, length, subst}
-use Rattle.std.specs.Prelude.{Err, Ok, IfOk, Result}
-use Rattle.canvas_cli.specs.Readings.{AnswersFault, Breaks, IsDerivation, Refuses}
+use Rattle.std.proofs.Common.{◌≡◌, ℕ, ◌≤◌, List, None, length, refl, subst}
+use Rattle.std.specs.Prelude.{Err, Ok, Vec}
+use Rattle.std.specs.declared.alloc.Global.{Global}
+use Rattle.canvas_cli.proofs.Seen.{answer_whole}
+use Rattle.canvas_cli.proofs.Trees.{client_readable}
+use Rattle.canvas_cli.specs.Readings.{AnswersFault, Breaks, BreaksClient, IsJudged, IsDerivation, IsRead, IsTaken, Refuses, RefusesClient, unread}
 use Rattle.canvas_cli.specs.Refusals.{IsTree}
-use Rattle.canvas_cli.specs.Verdicts.{ClientVerdict, Decides, DecidesOne, HasManyCases, IsAnswer, IsClient, IsClosed, IsNoClient, IsOpen, IsSpecification}
-use Rattle.canvas_cli.specs.declared.answer.Role.TheVariants.{Specification}
+use Rattle.canvas_cli.specs.Texts.{refusal_text}
+use Rattle.canvas_cli.specs.Verdicts.{ClientVerdict, Decides, DecidesOne, HasManyCases, IsAnswer, IsClient, IsClosed, IsOpen, IsSpecification}
+use Rattle.canvas_cli.specs.declared.answer.Role.{Role}
+use Rattle.canvas_cli.specs.declared.answer.Role.TheVariants.{Specification, Client}
 use Rattle.canvas_cli.specs.declared.answer.Answer.{Answer}
-use Rattle.canvas_cli.specs.declared.answer.Answer.TheVariants.{Refused, NotBuilt, Memory, Derived, Open, ManyCases}
+use Rattle.canvas_cli.specs.declared.answer.Answer.TheVariants.{Refused, Memory, Derived, Open, ManyCases}
 use Rattle.canvas_cli.specs.declared.command.Command.{Command}
 use Rattle.canvas_cli.specs.declared.command.Command.TheVariants.{Certify, Run}
 use Rattle.canvas_cli.specs.declared.command.Single.{Single}
 use Rattle.canvas_cli.specs.declared.command.Single.TheVariants.{Derive}
+use Rattle.canvas_cli.specs.declared.refusal.NotTaken.{NotTaken}
+use Rattle.canvas_cli.specs.declared.refusal.NotTaken.TheVariants as no
+use Rattle.canvas_cli.specs.declared.refusal.Refusal.{Refusal}
 use Rattle.canvas_cli.specs.declared.refusal.Refusal.TheVariants.{Broken}
-use Rattle.canvas_cli.specs.declared.specification.NoSpecification.{NoSpecification}
-use Rattle.canvas_cli.specs.declared.specification.NoSpecification.TheVariants as no
-use Rattle.client_model.specs.Program.{ClientForm, Program, program_of}
-use Rattle.cv_base.specs.declared.push.Memory as want
+use Rattle.canvas_cli.specs.declared.refusal.Rule.TheVariants as language
+use Rattle.client_model.specs.Program as told
+use Rattle.client_model.specs.declared.tree.Client.{Client as Written}
+use Rattle.client_parser.specs.Answers.{ClientAnswers}
+use Rattle.client_model.proofs.Least.{none_is_well_formed}
+use Rattle.client_model.specs.Checked.{seen, without_sets}
+use Rattle.client_model.specs.CheckedForm as client
+use Rattle.client_model.specs.CheckedForm.{ClientForm}
+use Rattle.client_model.specs.Fits.{Fits}
+use Rattle.client_model.specs.Trees.{client_of}
+use Rattle.client_types.specs.Readable.{IsReadable}
+use Rattle.cv_lex.specs.declared.fault.TextFault.{TextFault}
+use Rattle.cv_lex.specs.declared.fault.TextFault.TheVariants as text_fault
 use Rattle.easl_model.specs.CheckedForm.{form_of}
 use Rattle.easl_model.specs.Form.{Form}
 use Rattle.easl_model.specs.Rules.{first_fault}
 use Rattle.easl_model.specs.declared.tree.Spec.{Spec}
 use Rattle.easl_parser.specs.Answers.{SpecAnswers}
-use Rattle.sole_main.specs.Reading.{IsNotRead, IsNotStraight, IsRead, IsReadStraight}
+
+-- what a reader answers of a text is what is wrong with it
+pub reads : (text : List ℕ) (e : TextFault) → SpecAnswers text (Err e) → Refuses text (unread e)
+reads text (text_fault.NotUtf8 place) answers = answers
+reads text (text_fault.BadToken place) answers = answers
+reads text (text_fault.Syntax place) answers = answers
+reads text (text_fault.Limit which place) answers = answers
+reads text text_fault.Memory answers = tt
+
+pub reads_client : (form : Form) (text : List ℕ) (e : TextFault) → ClientAnswers text (Err e) → RefusesClient form text (unread e)
+reads_client form text (text_fault.NotUtf8 place) answers = answers
+reads_client form text (text_fault.BadToken place) answers = answers
+reads_client form text (text_fault.Syntax place) answers = answers
+reads_client form text (text_fault.Limit which place) answers = answers
+reads_client form text text_fault.Memory answers = tt
+
+pub readable : (text : List ℕ) (tree : Written) → length text ≤ 1048576 → ClientAnswers text (Ok tree) → IsReadable tree
+readable = client_readable
 
 -- the rule that the tree of a text breaks is what is wrong with the text
-pub breaks : (text : List ℕ) (tree : Spec) (f : NoSpecification) → SpecAnswers text (Ok tree) → Breaks tree f → Refuses text f
-breaks text tree (no.Refused (Broken rule place)) spells first = (tree, spells, first)
+pub breaks : (text : List ℕ) (tree : Spec) (f : NotTaken) → SpecAnswers text (Ok tree) → Breaks tree f → Refuses text f
+breaks text tree (no.Refused (Broken (language.Specification rule) place)) spells first = (tree, spells, first)
 breaks text tree (no.Refused refusal) spells first = absurd first
 breaks text tree no.Memory spells first = tt
 
-pub checked : (text : List ℕ) (tree : Spec) (form : Form) → length text ≤ 65536 → SpecAnswers text (Ok tree) → first_fault tree ≡ None → form ≡ form_of tree → IsSpecification text form
-checked text tree form few spells well_formed form_is = record { tree = tree; is = record { few = few; spells = spells; well_formed = well_formed }; form_is = form_is }
+pub breaks_client : (form : Form) (text : List ℕ) (tree : Written) (f : NotTaken) → ClientAnswers text (Ok tree) → BreaksClient form tree f
+    → RefusesClient form text f
+breaks_client form text tree (no.Refused (Broken (language.Client rule) place)) spells first = (tree, spells, first)
+breaks_client form text tree (no.Refused refusal) spells first = absurd first
+breaks_client form text tree no.Memory spells first = tt
+
+pub checked : (text : List ℕ) (tree : Spec) (form : Form) → length text ≤ 65536 → SpecAnswers text (Ok tree) → first_fault tree ≡ None → form ≡ form_of tree
+    → IsSpecification text form
+checked text tree form few spells well_formed form_is =
+    record { tree = tree; is = record { few = few; spells = spells; well_formed = well_formed }; form_is = form_is }
 
 pub is_tree : (text : List ℕ) (tree : Spec) → length text ≤ 65536 → SpecAnswers text (Ok tree) → first_fault tree ≡ None → IsTree text tree
 is_tree text tree few spells well_formed = record { few = few; spells = spells; well_formed = well_formed }
 
+pub is_read : (form : Form) (text : List ℕ) (tree : Written) (c : told.ClientForm) → length text ≤ 1048576 → ClientAnswers text (Ok tree)
+    → IsTaken form (client_of tree) c → IsRead form text c
+is_read form text tree c few spells (taken, fits) =
+    record { tree = tree; is = record { few = few; spells = spells; well_formed = taken.well_formed }; form_is = taken.is; fits = fits }
+
+-- the line is of the text's role
+pub says : (role : Role) (refusal : Refusal) (line : Vec ℕ Global) → line.items ≡ refusal_text role refusal
+    → AnswersFault role (no.Refused refusal) (Refused role line)
+says Specification refusal line is = is
+says Client refusal line is = is
+
+pub says_memory : (role : Role) (f : NotTaken) → AnswersFault role f Memory
+says_memory Specification (no.Refused refusal) = tt
+says_memory Specification no.Memory = tt
+says_memory Client (no.Refused refusal) = tt
+says_memory Client no.Memory = tt
+
 -- what is wrong with the specification decides
-pub refused : (command : Command) (spec client : List ℕ) (f : NoSpecification) (a : Answer) → Refuses spec f → AnswersFault f a → Decides command spec client a
+pub refused : (command : Command) (spec client : List ℕ) (f : NotTaken) (a : Answer) → Refuses spec f → AnswersFault Specification f a
+    → Decides command spec client a
 refused command spec client (no.Refused refusal) (Refused Specification line) is tells = (refusal, is, tells)
 refused command spec client (no.Refused refusal) Memory is tells = tt
 refused command spec client (no.Refused refusal) a is tells = absurd tells
 refused command spec client no.Memory Memory is tells = tt
 refused command spec client no.Memory a is tells = absurd tells
 
-pub not_answered : (single : Single) (text : List ℕ) (f : NoSpecification) (a : Answer) → Refuses text f → AnswersFault f a → DecidesOne single text a
+pub not_answered : (single : Single) (text : List ℕ) (f : NotTaken) (a : Answer) → Refuses text f → AnswersFault Specification f a → DecidesOne single text a
 not_answered single text (no.Refused refusal) (Refused Specification line) is tells = (refusal, is, tells)
 not_answered single text (no.Refused refusal) Memory is tells = tt
 not_answered single text (no.Refused refusal) a is tells = absurd tells
 not_answered single text no.Memory Memory is tells = tt
 not_answered single text no.Memory a is tells = absurd tells
+
+-- and so does what is wrong with the client, the specification being read
+pub client_refused : (command : Command) (form : Form) (text : List ℕ) (f : NotTaken) (a : Answer) → RefusesClient form text f → AnswersFault Client f a
+    → ClientVerdict command form text a
+client_refused command form text (no.Refused refusal) (Refused Client line) is tells = (refusal, is, tells)
+client_refused command form text (no.Refused refusal) Memory is tells = tt
+client_refused command form text (no.Refused refusal) a is tells = absurd tells
+client_refused command form text no.Memory Memory is tells = tt
+client_refused command form text no.Memory a is tells = absurd tells
 
 -- what a checked specification closes with, or what stops it, is what its text decides
 pub derived : (text : List ℕ) (form : Form) (a : Answer) → IsSpecification text form → IsDerivation form a → DecidesOne Derive text a
@@ -59,33 +128,30 @@ derived text form Memory is found = tt
 derived text form a is found = absurd found
 
 -- what the client's text decides is the answer for both
-pub specified : (command : Command) (spec client : List ℕ) (form : Form) (a : Answer) → IsSpecification spec form → ClientVerdict command form client a → Decides command spec client a
-specified Certify spec client form (Refused Specification line) is (program, taken, answer) = absurd answer
-specified (Run choices) spec client form (Refused Specification line) is (program, taken, (o, run, told)) = absurd told
-specified command spec client form Memory is verdict = tt
-specified command spec client form a is verdict = (form, is, verdict)
+pub specified : (command : Command) (spec text : List ℕ) (form : Form) (a : Answer) → IsSpecification spec form → ClientVerdict command form text a
+    → Decides command spec text a
+specified Certify spec text form (Refused Specification line) is (client, taken, answer) = absurd answer
+specified (Run choices) spec text form (Refused Specification line) is (client, taken, (o, run, told)) = absurd told
+specified command spec text form Memory is verdict = tt
+specified command spec text form a is verdict = (form, is, verdict)
 
 -- the answer for a checked client is what its text decides
-judged : (command : Command) (form : Form) (text : List ℕ) (p : Program) (a : Answer) → IsClient command form text p → IsAnswer command form p a → ClientVerdict command form text a
-judged Certify form text p NotBuilt is answer = absurd answer
-judged (Run choices) form text p NotBuilt is (o, run, told) = absurd told
-judged command form text p Memory is answer = tt
-judged command form text p a is answer = (p, is, answer)
+verdict_of : (command : Command) (form : Form) (text : List ℕ) (c : ClientForm) (a : Answer) → Fits form c → IsClient form text c
+    → IsJudged command form (without_sets c) a → ClientVerdict command form text a
+verdict_of Certify form text c (Refused Client line) fits is answer = absurd answer
+verdict_of (Run choices) form text c (Refused Client line) fits is (o, run, told) = absurd told
+verdict_of command form text c Memory fits is answer = tt
+verdict_of command form text c a fits is answer = (c, is, answer_whole command form c a fits answer)
 
-judged_ok : (command : Command) (form : Form) (text : List ℕ) (p : Program) (r : Result Answer want.Memory) → IsClient command form text p → IfOk r (IsAnswer command form p) → IfOk r (ClientVerdict command form text)
-judged_ok command form text p (Ok a) is answer = judged command form text p a is answer
-judged_ok command form text p (Err e) is answer = answer
-
-pub certified : (form : Form) (text : List ℕ) (c : ClientForm) (r : Result Answer want.Memory) → length text ≤ 1048576 → IsReadStraight form text c → IfOk r (IsAnswer Certify form (program_of c)) → IfOk r (ClientVerdict Certify form text)
-certified form text c r few is answer =
-    judged_ok Certify form text (program_of c) r (record { few = few; body = is.body; taken = is.first; program_of = is.program }) answer
-
-pub ran : (form : Form) (text : List ℕ) (c : ClientForm) (choices : List Bool) (r : Result Answer want.Memory) → length text ≤ 1048576 → IsRead form text c → IfOk r (IsAnswer (Run choices) form (program_of c)) → IfOk r (ClientVerdict (Run choices) form text)
-ran form text c choices r few is answer =
-    judged_ok (Run choices) form text (program_of c) r (record { few = few; body = is.body; taken = is.main; program_of = is.program }) answer
-
-pub not_straight : (form : Form) (text : List ℕ) → IsNotStraight form text → IsNoClient Certify form text
-not_straight form text none program is = none is.body is.taken
-
-pub not_main : (form : Form) (text : List ℕ) (choices : List Bool) → IsNotRead form text → IsNoClient (Run choices) form text
-not_main form text choices none program is = none is.body is.taken
+pub judged : (command : Command) (form : Form) (text : List ℕ) (c : told.ClientForm) (a : Answer) → IsRead form text c → IsJudged command form (seen c) a
+    → ClientVerdict command form text a
+judged command form text c a read answer =
+    let whole : ClientForm = client.form_of form (client_of read.tree) in
+    let fits : Fits form whole = record {
+      client = client_of read.tree;
+      well_formed = none_is_well_formed form (client_of read.tree) read.is.well_formed;
+      is =
+          refl;
+    } in
+    let is : IsClient form text whole = record { tree = read.tree; is = read.is; form_is = refl } in
+    verdict_of command form text whole a fits is (subst (λ x. IsJudged command form x a) read.form_is answer)

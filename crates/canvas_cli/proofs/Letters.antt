@@ -135,7 +135,8 @@ pub spells : (word : List ℕ) → (choices : List Bool) × (word ≡ letters ch
 spells word (choices, is) = subst (λ w. (k : ℕ) → k < length w → IsLetter (get_or w k 0)) (sym is) (kinds choices)
 
 -- a list of two, three or four words, item by item
-pub two_words : (words : List (String Global)) (a b : String Global) (x y : List ℕ) → 2 ≤ length words → length words < 3 → a ≡ get_or words 0 a → b ≡ get_or words 1 b → string_bytes a ≡ x → string_bytes b ≡ y → AreWords words (x ∷ y ∷ [])
+pub two_words : (words : List (String Global)) (a b : String Global) (x y : List ℕ) → 2 ≤ length words → length words < 3 → a ≡ get_or words 0 a
+    → b ≡ get_or words 1 b → string_bytes a ≡ x → string_bytes b ≡ y → AreWords words (x ∷ y ∷ [])
 two_words [] a b x y least most first second is1 is2 = absurd (omega (arith, least))
 two_words (u ∷ []) a b x y least most first second is1 is2 = absurd (omega (arith, least))
 two_words (u ∷ v ∷ []) a b x y least most first second is1 is2 =
@@ -144,7 +145,8 @@ two_words (u ∷ v ∷ []) a b x y least most first second is1 is2 =
     cc
 two_words (u ∷ v ∷ w ∷ rest) a b x y least most first second is1 is2 = absurd (omega (arith, most))
 
-pub three_words : (words : List (String Global)) (a b c : String Global) (x y z : List ℕ) → 3 ≤ length words → length words < 4 → a ≡ get_or words 0 a → b ≡ get_or words 1 b → c ≡ get_or words 2 c → string_bytes a ≡ x → string_bytes b ≡ y → string_bytes c ≡ z → AreWords words (x ∷ y ∷ z ∷ [])
+pub three_words : (words : List (String Global)) (a b c : String Global) (x y z : List ℕ) → 3 ≤ length words → length words < 4 → a ≡ get_or words 0 a
+    → b ≡ get_or words 1 b → c ≡ get_or words 2 c → string_bytes a ≡ x → string_bytes b ≡ y → string_bytes c ≡ z → AreWords words (x ∷ y ∷ z ∷ [])
 three_words [] a b c x y z least most first second third is1 is2 is3 = absurd (omega (arith, least))
 three_words (u ∷ []) a b c x y z least most first second third is1 is2 is3 = absurd (omega (arith, least))
 three_words (u ∷ v ∷ []) a b c x y z least most first second third is1 is2 is3 = absurd (omega (arith, least))
@@ -155,7 +157,9 @@ three_words (u ∷ v ∷ w ∷ []) a b c x y z least most first second third is1
     cc
 three_words (u ∷ v ∷ w ∷ t ∷ rest) a b c x y z least most first second third is1 is2 is3 = absurd (omega (arith, most))
 
-pub four_words : (words : List (String Global)) (a b c d : String Global) (x y z k : List ℕ) → 4 ≤ length words → length words < 5 → a ≡ get_or words 0 a → b ≡ get_or words 1 b → c ≡ get_or words 2 c → d ≡ get_or words 3 d → string_bytes a ≡ x → string_bytes b ≡ y → string_bytes c ≡ z → string_bytes d ≡ k → AreWords words (x ∷ y ∷ z ∷ k ∷ [])
+pub four_words : (words : List (String Global)) (a b c d : String Global) (x y z k : List ℕ) → 4 ≤ length words → length words < 5 → a ≡ get_or words 0 a
+    → b ≡ get_or words 1 b → c ≡ get_or words 2 c → d ≡ get_or words 3 d → string_bytes a ≡ x → string_bytes b ≡ y → string_bytes c ≡ z → string_bytes d ≡ k
+    → AreWords words (x ∷ y ∷ z ∷ k ∷ [])
 four_words [] a b c d x y z k least most first second third fourth is1 is2 is3 is4 = absurd (omega (arith, least))
 four_words (u ∷ []) a b c d x y z k least most first second third fourth is1 is2 is3 is4 = absurd (omega (arith, least))
 four_words (u ∷ v ∷ []) a b c d x y z k least most first second third fourth is1 is2 is3 is4 = absurd (omega (arith, least))

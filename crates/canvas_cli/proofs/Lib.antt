@@ -7,6 +7,7 @@ pub mod Moved
 pub mod Names
 pub mod Outcomes
 pub mod Pairs
+pub mod Seen
 pub mod Shows
 pub mod Told
 pub mod Trees

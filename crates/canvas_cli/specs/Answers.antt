@@ -1,5 +1,5 @@
 -- Which answers are allowed, by what the shelf tells and counts; and how an answer is written.
-use Rattle.std.specs.Prelude.{◌≡◌, ℕ, ◌<◌, ◌≤◌, List, length, take, Option, String, ◌⊎◌}
+use Rattle.std.specs.Prelude.{◌≡◌, ℕ, ◌<◌, ◌≤◌, List, length, take, Option, String}
 use Rattle.std.specs.declared.alloc.Global.{Global}
 use Rattle.cv_base.specs.Causes.{Appends, Begins}
 use Rattle.cv_base.specs.declared.status.Status.{Status}
@@ -11,7 +11,7 @@ use Rattle.canvas_cli.specs.Verdicts.{Decides, DecidesOne}
 use Rattle.canvas_cli.specs.declared.answer.Role.{Role}
 use Rattle.canvas_cli.specs.declared.answer.Role.TheVariants.{Specification, Client}
 use Rattle.canvas_cli.specs.declared.answer.Answer.{Answer}
-use Rattle.canvas_cli.specs.declared.answer.Answer.TheVariants.{Usage, ReadFault, TooLong, NotBuilt, Memory}
+use Rattle.canvas_cli.specs.declared.answer.Answer.TheVariants.{Usage, ReadFault, TooLong, Memory}
 use Rattle.canvas_cli.specs.declared.command.Command.{Command}
 
 -- these bytes are the text of the role, as far as it is told, and within its limit
@@ -34,7 +34,8 @@ ClientDecides command spec held answer = (text : List ℕ) × IsLoaded Client he
 abbrev pub ClientAnswers : Command → List ℕ → Option (List ℕ) → Type 0 → Answer → Type 0
 ClientAnswers command spec held rose (ReadFault Specification) = ⊥
 ClientAnswers command spec held rose (ReadFault Client) = rose
-ClientAnswers command spec held rose NotBuilt = IsTooLong Client held ⊎ ClientDecides command spec held NotBuilt
+ClientAnswers command spec held rose (TooLong Specification) = ⊥
+ClientAnswers command spec held rose (TooLong Client) = IsTooLong Client held
 ClientAnswers command spec held rose Memory = Unit {0}
 ClientAnswers command spec held rose answer = ClientDecides command spec held answer
 
@@ -58,13 +59,10 @@ TextsDecide held (One single spec) answer = (text : List ℕ) × IsLoaded Specif
 TextsDecide held (Pair command spec client) answer = (text : List ℕ) × IsLoaded Specification (held spec) text × ClientDecides command text (held client) answer
 
 -- What may be answered to the request, by what is held under each name and whose counts rose. The texts come first, in
--- the order of the words, each with its load and its length; what is wrong in them, and the answer, follow. So far a
--- client that is too long is not built in place of its limit.
+-- the order of the words, each with its load and its length; what is wrong in them, and the answer, follow.
 abbrev pub MayAnswer : (List ℕ → Option (List ℕ)) → (List ℕ → Type 0) → Request → Answer → Type 0
 MayAnswer held rose request (ReadFault role) = FailsToLoad held rose request role
-MayAnswer held rose request (TooLong Specification) = IsLoadedTooLong held request Specification
-MayAnswer held rose request (TooLong Client) = ⊥
-MayAnswer held rose request NotBuilt = IsLoadedTooLong held request Client ⊎ TextsDecide held request NotBuilt
+MayAnswer held rose request (TooLong role) = IsLoadedTooLong held request role
 MayAnswer held rose request Memory = Unit {0}
 MayAnswer held rose request answer = TextsDecide held request answer
 

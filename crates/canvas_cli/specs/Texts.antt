@@ -5,13 +5,18 @@ use Rattle.cv_base.specs.declared.status.Status.TheVariants as s
 use Rattle.canvas_cli.specs.declared.answer.Role.{Role}
 use Rattle.canvas_cli.specs.declared.answer.Role.TheVariants.{Specification, Client}
 use Rattle.canvas_cli.specs.declared.answer.Answer.{Answer}
-use Rattle.canvas_cli.specs.declared.answer.Answer.TheVariants.{Usage, ReadFault, TooLong, Refused, NotBuilt, Memory, Shown, Derived, Open, ManyCases, Certified, Alarm, Ends, Short, Fails, Long}
+use Rattle.canvas_cli.specs.declared.answer.Answer.TheVariants.{Usage, ReadFault, TooLong, Refused, NotBuilt, Memory, Shown, Derived, Open, ManyCases}
+use Rattle.canvas_cli.specs.declared.answer.Answer.TheVariants.{Certified, Alarm, Ends, Short, Fails, Long}
 use Rattle.canvas_cli.specs.declared.refusal.Refusal.{Refusal}
 use Rattle.canvas_cli.specs.declared.refusal.Refusal.TheVariants.{NotUtf8, BadToken, Syntax, Limit, Broken}
+use Rattle.canvas_cli.specs.declared.refusal.Rule.{Rule}
+use Rattle.canvas_cli.specs.declared.refusal.Rule.TheVariants as language
+use Rattle.client_values.specs.declared.fault.Rule.{Rule as ClientRule}
+use Rattle.client_values.specs.declared.fault.Rule.TheVariants as client
 use Rattle.derivation.specs.declared.derive_fault.Reason.{Reason}
 use Rattle.derivation.specs.declared.derive_fault.Reason.TheVariants.{Families, Path, Cover}
 use Rattle.easl_model.specs.Form.{Form}
-use Rattle.easl_model.specs.declared.fault.Rule.{Rule}
+use Rattle.easl_model.specs.declared.fault.Rule.{Rule as SpecRule}
 use Rattle.easl_model.specs.declared.fault.Rule.TheVariants as rule
 use Rattle.easl_model.specs.declared.fault.Which.{Which}
 use Rattle.easl_model.specs.declared.fault.Which.TheVariants as which
@@ -55,20 +60,34 @@ abbrev pub too_long_text : Role → List ℕ
 too_long_text Specification = codes "limit specification bytes 65536\n"
 too_long_text Client = codes "limit client bytes 1048576\n"
 
--- so far a client is not refused
+-- so far clients of more than straight code are not certified
 abbrev pub not_built_text : List ℕ
 not_built_text = codes "not built client\n"
 
 abbrev pub place_text : Place → List ℕ
 place_text place = decimal place.line ++ codes ":" ++ decimal place.col
 
+abbrev pub spec_rule_text : SpecRule → List ℕ
+spec_rule_text rule.Duplicate = codes "S1"
+spec_rule_text rule.Unknown = codes "S2"
+spec_rule_text rule.Mismatch = codes "S3"
+spec_rule_text rule.Unready = codes "S4"
+spec_rule_text rule.ConstructorCycle = codes "S5"
+spec_rule_text rule.TooLong = codes "S6"
+
+abbrev pub client_rule_text : ClientRule → List ℕ
+client_rule_text client.Duplicate = codes "C1"
+client_rule_text client.Unknown = codes "C2"
+client_rule_text client.Mismatch = codes "C3"
+client_rule_text client.Unset = codes "C4"
+client_rule_text client.NoReturn = codes "C5"
+client_rule_text client.NoMain = codes "C6"
+client_rule_text client.Unreachable = codes "C7"
+client_rule_text client.OutsideLoop = codes "C8"
+
 abbrev pub rule_text : Rule → List ℕ
-rule_text rule.Duplicate = codes "S1"
-rule_text rule.Unknown = codes "S2"
-rule_text rule.Mismatch = codes "S3"
-rule_text rule.Unready = codes "S4"
-rule_text rule.ConstructorCycle = codes "S5"
-rule_text rule.TooLong = codes "S6"
+rule_text (language.Specification rule) = spec_rule_text rule
+rule_text (language.Client rule) = client_rule_text rule
 
 abbrev pub limit_text : Which → List ℕ
 limit_text which.Nesting = codes "E4 nesting"

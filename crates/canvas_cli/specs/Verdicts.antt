@@ -1,20 +1,23 @@
 -- What the texts decide: the layout of a specification, how it closes, whether a client is safe and where it fails, or how it runs.
-use Rattle.std.specs.Prelude.{◌≡◌, ℕ, ◌≤◌, List, [], Some, length, slice_get}
-use Rattle.canvas_cli.specs.Refusals.{IsRefused, IsTree, most_bytes}
+use Rattle.std.specs.Prelude.{◌≡◌, ℕ, true, false, List, [], Some, slice_get}
+use Rattle.canvas_cli.specs.Refusals.{IsClientRefused, IsClientTree, IsRefused, IsTree}
 use Rattle.canvas_cli.specs.Texts.{alarm_text, cases_text, clause_text, ends_text, fails_text, open_text}
 use Rattle.canvas_cli.specs.declared.answer.Role.TheVariants.{Specification, Client}
 use Rattle.canvas_cli.specs.declared.answer.Answer.{Answer}
-use Rattle.canvas_cli.specs.declared.answer.Answer.TheVariants.{Refused, NotBuilt, Memory, Shown, Derived, Open, ManyCases, Certified, Alarm, Ends, Short, Fails, Long}
+use Rattle.canvas_cli.specs.declared.answer.Answer.TheVariants.{Refused, NotBuilt, Memory, Shown, Derived, Open, ManyCases, Certified, Alarm, Ends, Short}
+use Rattle.canvas_cli.specs.declared.answer.Answer.TheVariants.{Fails, Long}
 use Rattle.canvas_cli.specs.declared.command.Command.{Command}
 use Rattle.canvas_cli.specs.declared.command.Command.TheVariants.{Certify, Run}
 use Rattle.canvas_cli.specs.declared.command.Single.{Single}
 use Rattle.canvas_cli.specs.declared.command.Single.TheVariants.{Show, Derive}
-use Rattle.client_model.specs.Points.{IsProgramOf}
-use Rattle.client_model.specs.Program.{Program}
-use Rattle.client_model.specs.Statements.{Statements}
+use Rattle.client_run.specs.Straight.{is_straight}
 use Rattle.client_model.specs.declared.form.CallSite.{CallSite}
-use Rattle.client_run.specs.Run as runs
-use Rattle.client_run.specs.Run.{IsRun, IsSafe, Outcome}
+use Rattle.client_model.specs.declared.tree.Client.{Client as Written}
+use Rattle.client_model.specs.CheckedForm as checked
+use Rattle.client_model.specs.CheckedForm.{ClientForm}
+use Rattle.client_model.specs.Trees.{client_of}
+use Rattle.client_steps.specs.Runs as runs
+use Rattle.client_steps.specs.Runs.{IsRun, IsSafe, Outcome}
 use Rattle.derivation.specs.Closing.{Closes, Stops}
 use Rattle.derivation.specs.declared.derive_fault.DeriveFault.TheVariants as stop
 use Rattle.derivation.specs.declared.derive_fault.Reason.{Reason}
@@ -27,7 +30,6 @@ use Rattle.easl_print.specs.Lines.{spec_text}
 use Rattle.method_abstraction.specs.Texts.{abstraction_text}
 use Rattle.method_abstraction.specs.declared.entry.Abstraction.{Abstraction}
 use Rattle.method_abstraction.specs.declared.entry.Question.{Question}
-use Rattle.sole_main.specs.MainClient.{IsFirstClient, IsMainClient}
 
 -- how many units a run may take
 abbrev pub most_units : ℕ
@@ -39,22 +41,16 @@ pub record IsSpecification (text : List ℕ) (form : Form) : Type 0 where
   pub is : IsTree text tree
   pub form_is : form ≡ form_of tree
 
--- the client is of the form that the command takes, and these are the statements of its `main`
-abbrev pub IsTaken : Command → Form → List ℕ → Statements → Type 0
-IsTaken Certify form text body = IsFirstClient form text body
-IsTaken (Run choices) form text body = IsMainClient form text body
+-- the text is a client that is well-formed for this specification, and this is its checked form
+pub record IsClient (form : Form) (text : List ℕ) (client : ClientForm) : Type 0 where
+  pub tree : Written
+  pub is : IsClientTree form text tree
+  pub form_is : client ≡ checked.form_of form (client_of tree)
 
--- and this is what runs of it
-pub record IsClient (command : Command) (form : Form) (text : List ℕ) (program : Program) : Type 0 where
-  pub few : length text ≤ most_bytes Client
-  pub body : Statements
-  pub taken : IsTaken command form text body
-  pub program_of : IsProgramOf form body program
-
--- a checked specification, and a client that fits it
-pub record IsPair (command : Command) (spec client : List ℕ) (form : Form) (program : Program) : Type 0 where
+-- a checked specification, and a checked client that fits it
+pub record IsPair (spec text : List ℕ) (form : Form) (client : ClientForm) : Type 0 where
   pub specification : IsSpecification spec form
-  pub client_text : IsClient command form client program
+  pub client_text : IsClient form text client
 
 -- the text is that of a clause of the method of this call
 pub record NamesClause (form : Form) (calls : List CallSite) (call clause : ℕ) (text : List ℕ) : Type 0 where
@@ -67,45 +63,42 @@ pub record NamesClause (form : Form) (calls : List CallSite) (call clause : ℕ)
   pub is : text ≡ clause_text site.place class.name method clause
 
 -- the run on no choices fails at the alarm's call and clause
-pub record IsAlarm (form : Form) (program : Program) (text : List ℕ) : Type 0 where
+pub record IsAlarm (form : Form) (client : ClientForm) (text : List ℕ) : Type 0 where
   pub call : ℕ
   pub clause : ℕ
   pub budget : ℕ
-  pub fails : IsRun form program [] budget (runs.Fails call clause 0)
+  pub fails : IsRun form client [] budget (runs.Fails call clause 0)
   pub named : List ℕ
-  pub names : NamesClause form program.calls call clause named
+  pub names : NamesClause form client.calls call clause named
   pub is : text ≡ alarm_text named
 
 -- the text says that a run fails at this call and clause, with so many choices not taken
-pub record IsFailure (form : Form) (program : Program) (call clause left : ℕ) (text : List ℕ) : Type 0 where
+pub record IsFailure (form : Form) (client : ClientForm) (call clause left : ℕ) (text : List ℕ) : Type 0 where
   pub named : List ℕ
-  pub names : NamesClause form program.calls call clause named
+  pub names : NamesClause form client.calls call clause named
   pub is : text ≡ fails_text named left
 
 -- the answer tells how a run ends
-abbrev pub Tells : Form → Program → Answer → Outcome → Type 0
-Tells form program (Ends text) (runs.Ends left) = text.items ≡ ends_text left
-Tells form program Short runs.Short = Unit {0}
-Tells form program (Fails text) (runs.Fails call clause left) = IsFailure form program call clause left text.items
-Tells form program Long runs.Cut = Unit {0}
-Tells form program answer o = ⊥
+abbrev pub Tells : Form → ClientForm → Answer → Outcome → Type 0
+Tells form client (Ends text) (runs.Ends left) = text.items ≡ ends_text left
+Tells form client Short runs.Short = Unit {0}
+Tells form client (Fails text) (runs.Fails call clause left) = IsFailure form client call clause left text.items
+Tells form client Long runs.Cut = Unit {0}
+Tells form client answer o = ⊥
 
--- what is answered to the command for a checked specification and client
-abbrev pub IsAnswer : Command → Form → Program → Answer → Type 0
-IsAnswer Certify form program Certified = IsSafe form program
-IsAnswer Certify form program (Alarm text) = IsAlarm form program text.items
-IsAnswer Certify form program answer = ⊥
-IsAnswer (Run choices) form program answer = (o : Outcome) × IsRun form program choices most_units o × Tells form program answer o
-
--- the text is no client of the form that the command takes
-abbrev pub IsNoClient : Command → Form → List ℕ → Type 0
-IsNoClient command form text = (program : Program) → IsClient command form text program → ⊥
+-- what is answered to the command for a checked specification and client; so far straight clients alone are certified
+abbrev pub IsAnswer : Command → Form → ClientForm → Answer → Type 0
+IsAnswer Certify form client NotBuilt = is_straight client ≡ false
+IsAnswer Certify form client Certified = (is_straight client ≡ true) × IsSafe form client
+IsAnswer Certify form client (Alarm text) = (is_straight client ≡ true) × IsAlarm form client text.items
+IsAnswer Certify form client answer = ⊥
+IsAnswer (Run choices) form client answer = (o : Outcome) × IsRun form client choices most_units o × Tells form client answer o
 
 -- what the text of a client decides, the specification being read
 abbrev pub ClientVerdict : Command → Form → List ℕ → Answer → Type 0
-ClientVerdict command form client NotBuilt = IsNoClient command form client
-ClientVerdict command form client Memory = Unit {0}
-ClientVerdict command form client answer = (program : Program) × IsClient command form client program × IsAnswer command form program answer
+ClientVerdict command form text (Refused Client line) = IsClientRefused form text line.items
+ClientVerdict command form text Memory = Unit {0}
+ClientVerdict command form text answer = (client : ClientForm) × IsClient form text client × IsAnswer command form client answer
 
 -- what the texts of a specification and a client decide
 abbrev pub Decides : Command → List ℕ → List ℕ → Answer → Type 0

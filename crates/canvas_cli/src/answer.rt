@@ -33,7 +33,7 @@ pub enum Answer {
     TooLong(Role),
     /// Something is wrong with the text: the line that says what, and where.
     Refused(Role, Vec<u8>),
-    /// The client is not of the form that the command takes so far.
+    /// The client is not straight, and so is not certified so far.
     NotBuilt,
     /// Memory was wanted and not found.
     Memory,

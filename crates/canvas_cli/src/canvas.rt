@@ -17,12 +17,13 @@ use std::alloc::Global;
 /// name from the shelf, writes the answer to the sink, and gives the status.
 ///
 /// `Usage` comes exactly where the words are no command. `ReadFault` comes only where the count of faults of a
-/// named text's name rose, the texts named before it being loaded. `Limit` comes exactly where the specification is
-/// longer than its limit, a question of a derivation has too many configurations, or a run would take more units than
-/// it may. `Open` comes where a derivation does not close, whose first question that stops it is named. `Refused` comes
-/// exactly where something is wrong with the specification, whose first fault is named, and `NotBuilt` where the client
-/// is longer than its limit or not of the form that the command takes; lengths are looked at first. `WriteFault` comes
-/// only where the sink's count rose; what was taken is then a proper prefix of an allowed answer's text.
+/// named text's name rose, the texts named before it being loaded. `Limit` comes exactly where a text is longer than its
+/// limit, a question of a derivation has too many configurations, or a run would take more units than it may. `Open`
+/// comes where a derivation does not close, whose first question that stops it is named. `Refused` comes exactly where
+/// something is wrong with a text, whose first fault is named: the specification's comes before the client's, and
+/// lengths are looked at first. `NotBuilt` comes exactly where a client is to be certified that is well-formed but not
+/// straight. `WriteFault` comes only where the sink's count rose; what was taken is then a proper prefix of an allowed
+/// answer's text.
 pub fn canvas<S: Shelf, W: Sink>(
     alloc: Global,
     words: &[String],
@@ -112,7 +113,7 @@ fn perform_on<S: Shelf>(
     match load(alloc, shelf, client, Role::Client) {
         Ok(text) => decide(alloc, command, specification, text.as_slice()),
         Err(NoText::Failed) => Answer::ReadFault(Role::Client),
-        Err(NoText::TooLong) => Answer::NotBuilt,
+        Err(NoText::TooLong) => Answer::TooLong(Role::Client),
         Err(NoText::Memory) => Answer::Memory,
     }
 }

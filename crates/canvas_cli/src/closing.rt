@@ -5,10 +5,11 @@ ghost use Rattle.canvas_cli.specs.Verdicts.{DecidesOne};
 ghost use Rattle.canvas_cli.specs.Readings.{IsDerivation};
 ghost use Rattle.derivation.specs.declared.derive_fault.DeriveFault as stops;
 
-use crate::answer::Answer;
+use crate::answer::{Answer, Role};
 use crate::command::Single;
 use crate::questions::{cases_line, open_line};
-use crate::specification::{read_checked, refuse};
+use crate::refusal::refuse;
+use crate::specification::read_checked;
 use cv_base::Memory;
 use derivation::{DeriveFault, Reason, derive};
 use easl_model::CheckedSpec;
@@ -23,7 +24,7 @@ pub(crate) fn derive_text(alloc: Global, text: &[u8]) -> Answer
 {
     match read_checked(alloc, text) {
         Ok(spec) => derivation_of(alloc, &spec),
-        Err(fault) => refuse(alloc, fault),
+        Err(fault) => refuse(alloc, Role::Specification, fault),
     }
 }
 

@@ -1,14 +1,19 @@
 //! What the text of a specification decides alone, or with that of a client.
 ghost use Rattle.std.specs.Prelude.{◌≤◌, IfOk, length};
-ghost use Rattle.canvas_cli.specs.Verdicts.{ClientVerdict, Decides, DecidesOne};
+ghost use Rattle.canvas_cli.specs.Readings.{IsJudged};
+ghost use Rattle.canvas_cli.specs.Verdicts.{ClientVerdict, Decides, DecidesOne, IsAnswer};
+ghost use Rattle.client_model.specs.Checked.{IsFitting, seen};
 
-use crate::answer::Answer;
+use crate::answer::{Answer, Role};
 use crate::certifying::certify;
+use crate::client::read_checked_client;
 use crate::closing::derive_text;
 use crate::command::{Command, Single};
+use crate::refusal::refuse;
 use crate::running::run_client;
 use crate::showing::show;
-use crate::specification::{read_checked, refuse};
+use crate::specification::read_checked;
+use client_model::CheckedClient;
 use cv_base::Memory;
 use easl_model::CheckedSpec;
 use std::alloc::Global;
@@ -38,16 +43,33 @@ pub(crate) fn decide(
 {
     match read_checked(alloc, specification_text) {
         Ok(spec) => decide_client(alloc, command, &spec, client_text),
-        Err(fault) => refuse(alloc, fault),
+        Err(fault) => refuse(alloc, Role::Specification, fault),
     }
 }
 
 /// The answer by the text of a client, the specification being read.
+#[tactic(auto, using(crate::proofs::Decided::judged, crate::proofs::Decided::client_refused))]
 fn decide_client(alloc: Global, command: &Command, spec: &CheckedSpec, text: &[u8]) -> Answer
     requires { length text.now ≤ 1048576 }
     ensures { ClientVerdict command.now spec.now text.now result }
 {
-    match judge(alloc, command, spec, text) {
+    match read_checked_client(alloc, spec, text) {
+        Ok(client) => answer_for(alloc, command, spec, &client),
+        Err(fault) => refuse(alloc, Role::Client, fault),
+    }
+}
+
+/// The answer for a checked client, or that there is no memory for it.
+fn answer_for(
+    alloc: Global,
+    command: &Command,
+    spec: &CheckedSpec,
+    client: &CheckedClient,
+) -> Answer
+    requires { IsFitting spec.now client.now }
+    ensures { IsJudged command.now spec.now (seen client.now) result }
+{
+    match judge(alloc, command, spec, client) {
         Ok(answer) => answer,
         Err(Memory) => Answer::Memory,
     }
@@ -58,13 +80,13 @@ fn judge(
     alloc: Global,
     command: &Command,
     spec: &CheckedSpec,
-    text: &[u8],
+    client: &CheckedClient,
 ) -> Result<Answer, Memory>
-    requires { length text.now ≤ 1048576 }
-    ensures { IfOk result (ClientVerdict command.now spec.now text.now) }
+    requires { IsFitting spec.now client.now }
+    ensures { IfOk result (IsAnswer command.now spec.now (seen client.now)) }
 {
     match command {
-        Command::Certify => certify(alloc, spec, text),
-        Command::Run(choices) => run_client(alloc, spec, text, choices.as_slice()),
+        Command::Certify => certify(alloc, spec, client),
+        Command::Run(choices) => run_client(alloc, spec, client, choices.as_slice()),
     }
 }

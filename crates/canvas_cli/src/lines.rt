@@ -1,8 +1,8 @@
 //! The lines that name a clause, and the line of a run that ends.
-ghost use Rattle.std.specs.Prelude.{◌≡◌, ◌<◌, ◌++◌, All, IfOk, OnOk, encode_utf8_all, length};
+ghost use Rattle.std.specs.Prelude.{◌≡◌, ◌<◌, ◌++◌, IfOk, OnOk, encode_utf8_all, length};
 ghost use Rattle.canvas_cli.specs.Texts.{alarm_text, clause_text, ends_text, fails_text, method_text};
 ghost use Rattle.canvas_cli.specs.Verdicts.{NamesClause};
-ghost use Rattle.client_run.specs.Straight.{CallFits};
+ghost use Rattle.client_model.specs.Checked.{IsFitting};
 
 use crate::refusal::push_place;
 use client_model::CheckedClient;
@@ -46,6 +46,7 @@ pub(crate) fn fails_line(alloc: Global, clause: &[u8], left: u64) -> Result<Vec<
 }
 
 /// The text of a clause of the method of this call.
+#[tactic(auto, using(crate::proofs::Seen::method_there))]
 pub(crate) fn clause_of(
     alloc: Global,
     spec: &CheckedSpec,
@@ -53,10 +54,11 @@ pub(crate) fn clause_of(
     call: u32,
     clause: u32,
 ) -> Result<Vec<u8>, Memory>
-    requires fit { All (CallFits spec.now) client.now.calls }
+    requires fits { IsFitting spec.now client.now }
     requires within { call < length client.now.calls }
     ensures { IfOk result (λ v. NamesClause spec.now client.now.calls call clause v.items) }
 {
+    spec.is_kept();
     let site = client.call(call);
     let method = spec.method(site.method);
     let class = spec.class_name(method.class);

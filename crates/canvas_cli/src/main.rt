@@ -4,6 +4,7 @@
 mod answer;
 mod canvas;
 mod certifying;
+mod client;
 mod closing;
 mod command;
 mod deciding;

@@ -97,9 +97,64 @@ const UNLOCKED_TWICE: &[u8] = b"void main() {
 }
 ";
 
-const UNKNOWN: &[u8] = b"void main() {
-  if (?) { i.next(); }
+const UNSET: &[u8] = b"void main() {
+  Set v = new Set();
+  Iterator i;
+  if (?) { i = v.iterator(); }
+  i.next();
 }
+";
+
+const BREAKING: &[u8] = b"void main() {
+  Set v = new Set();
+  Iterator i = v.iterator();
+  while (i.hasNext()) {
+    i.next();
+    if (?) { v.add(\"a\"); break; }
+  }
+}
+";
+
+const CONTINUING: &[u8] = b"void main() {
+  Set v = new Set();
+  Iterator i = v.iterator();
+  while (i.hasNext()) {
+    i.next();
+    if (?) { v.add(\"a\"); continue; }
+  }
+}
+";
+
+const RETURNING: &[u8] = b"void p(Set s) { if (?) { return; } s.add(\"a\"); }
+void main() { Set v = new Set(); Iterator i = v.iterator(); p(v); i.next(); }
+";
+
+const RECURSIVE: &[u8] = b"void r(Iterator i, Set s) {
+  if (?) { r(i, s); }
+  i.next();
+  s.add(\"a\");
+}
+void main() {
+  Set v = new Set();
+  Iterator i = v.iterator();
+  r(i, v);
+}
+";
+
+const WORKLIST: &[u8] = b"static Set work = new Set();
+void process(Object item) { if (?) { work.add(item); } }
+void drain() {
+  Iterator i = work.iterator();
+  while (i.hasNext()) {
+    Object item = i.next();
+    process(item);
+  }
+}
+void main() { work.add(\"a\"); drain(); }
+";
+
+const CALLING_ITSELF: &[u8] = b"void z() { z(); }
+void main() { z(); }
 ";
 
 const USAGE: &[u8] = b"usage: canvas COMMAND
@@ -202,7 +257,17 @@ fn answers_of_certify(rt: HostRuntime) -> Result<(), Fail> {
             ..PLAIN
         },
         Case {
+            client: b"void main() { }",
+            ..PLAIN
+        },
+        Case {
             client: BRANCHING,
+            written: b"not built client\n",
+            status: Status::NotBuilt,
+            ..PLAIN
+        },
+        Case {
+            client: WORKLIST,
             written: b"not built client\n",
             status: Status::NotBuilt,
             ..PLAIN
@@ -266,7 +331,7 @@ fn answers_of_certify(rt: HostRuntime) -> Result<(), Fail> {
 
 #[test]
 fn outcomes_of_runs(rt: HostRuntime) -> Result<(), Fail> {
-    let rows: [(&'static [u8], &'static str, &[u8], Status); 6] = [
+    let rows: [(&'static [u8], &'static str, &[u8], Status); 14] = [
         (REMOVING, "FT", b"short\n", Status::Fine),
         (
             REMOVING,
@@ -288,6 +353,34 @@ fn outcomes_of_runs(rt: HostRuntime) -> Result<(), Fail> {
             b"fails 4:25 Iterator.next 1, 0 left\n",
             Status::Alarm,
         ),
+        (BREAKING, "TT", b"ends, 0 left\n", Status::Fine),
+        (
+            CONTINUING,
+            "TTT",
+            b"fails 5:5 Iterator.next 1, 0 left\n",
+            Status::Alarm,
+        ),
+        (RETURNING, "T", b"ends, 0 left\n", Status::Fine),
+        (
+            RETURNING,
+            "F",
+            b"fails 2:67 Iterator.next 1, 0 left\n",
+            Status::Alarm,
+        ),
+        (
+            RECURSIVE,
+            "TF",
+            b"fails 3:3 Iterator.next 1, 0 left\n",
+            Status::Alarm,
+        ),
+        (RECURSIVE, "F", b"ends, 0 left\n", Status::Fine),
+        (
+            WORKLIST,
+            "TTT",
+            b"fails 6:19 Iterator.next 1, 0 left\n",
+            Status::Alarm,
+        ),
+        (WORKLIST, "TFF", b"ends, 0 left\n", Status::Fine),
     ];
     for (client, choices, written, status) in rows {
         let case = Case {
@@ -318,9 +411,9 @@ fn answers_without_a_run(rt: HostRuntime) -> Result<(), Fail> {
             ..RUN
         },
         Case {
-            client: UNKNOWN,
-            written: b"not built client\n",
-            status: Status::NotBuilt,
+            client: UNSET,
+            written: b"refused client C4 5:3\n",
+            status: Status::Refused,
             ..RUN
         },
         Case {
@@ -440,6 +533,48 @@ fn refusals_of_specifications(rt: HostRuntime) -> Result<(), Fail> {
         let case = Case {
             specification: text,
             client: BRANCHING,
+            ..PLAIN
+        };
+        let (status, taken) = outcome(rt.alloc(), &case)?;
+        assert_eq!(rt; taken.as_slice(), line.as_slice());
+        assert_eq!(rt; status, Status::Refused);
+    }
+    Ok(())
+}
+
+#[test]
+fn refusals_of_clients(rt: HostRuntime) -> Result<(), Fail> {
+    let rows: [(&'static [u8], &[u8]); 14] = [
+        (b"\xFF", b"E1 1:1"),
+        (b"#", b"E2 1:1"),
+        (b"void main() {", b"E3 1:14"),
+        (
+            b"void p(int a, int b, int c, int d, int e, int f, int g, int h, int i, int j, int k, int l, int m, int n, int o, int p, int q) { }",
+            b"E4 parameters 1:120",
+        ),
+        (
+            b"void main() { Set v = new Set(); Set v = new Set(); }",
+            b"C1 1:38",
+        ),
+        (b"void main() { w.add(\"a\"); }", b"C2 1:15"),
+        (b"void main() { Set v = \"a\"; }", b"C3 1:23"),
+        (UNSET, b"C4 5:3"),
+        (b"Set p() { } void main() { }", b"C5 1:11"),
+        (
+            b"Set p(Set s) { if (?) { return s; } } void main() { }",
+            b"C5 1:37",
+        ),
+        (b"", b"C6 1:1"),
+        (b"void main() { return; main(); }", b"C7 1:23"),
+        (b"void main() { break; }", b"C8 1:15"),
+        (b"void main() { continue; }", b"C8 1:15"),
+    ];
+    for (text, fault) in rows {
+        let mut line = Vec::from_slice(rt.alloc(), b"refused client ")?;
+        line.extend_from_slice(fault)?;
+        line.push(b'\n')?;
+        let case = Case {
+            client: text,
             ..PLAIN
         };
         let (status, taken) = outcome(rt.alloc(), &case)?;
@@ -578,6 +713,29 @@ fn limits_of_specifications(rt: HostRuntime) -> Result<(), Fail> {
     Ok(())
 }
 
+#[test]
+fn limits_of_clients(rt: HostRuntime) -> Result<(), Fail> {
+    let alloc = rt.alloc();
+    let rows: [(usize, &[u8], Status); 2] = [
+        (1_048_576, b"refused client C6 1:1048577\n", Status::Refused),
+        (1_048_577, b"limit client bytes 1048576\n", Status::Limit),
+    ];
+    for (count, written, status) in rows {
+        let mut text = Vec::new(alloc);
+        text.resize(count, b' ')?;
+        let mut files = Vec::new(alloc);
+        files.push(held(alloc, b"sets.easl", SETS)?)?;
+        files.push(held(alloc, b"a.client", text.as_slice())?)?;
+        let mut shelf = MemShelf::new(files, Vec::new(alloc));
+        let mut sink = MemSink::new(alloc, 1000, Vec::new(alloc))?;
+        let words = words(alloc, "certify")?;
+        let found = canvas(alloc, words.as_slice(), &mut shelf, &mut sink);
+        assert_eq!(rt; sink.taken(), written);
+        assert_eq!(rt; found, status);
+    }
+    Ok(())
+}
+
 /// So many choices, each of which is true.
 fn many_true(alloc: Global, count: u32) -> Result<String, Fail> {
     let mut word = String::with_capacity(alloc, count as usize)?;
@@ -590,15 +748,18 @@ fn many_true(alloc: Global, count: u32) -> Result<String, Fail> {
 #[test]
 fn runs_have_a_limit(rt: HostRuntime) -> Result<(), Fail> {
     let alloc = rt.alloc();
-    let rows: [(u32, &[u8], Status); 2] = [
-        (9_999_999, b"short\n", Status::Fine),
-        (10_000_000, b"limit steps 10000000\n", Status::Limit),
+    let rows: [(&'static [u8], u32, &[u8], Status); 3] = [
+        (ENDLESS, 9_999_999, b"short\n", Status::Fine),
+        (
+            ENDLESS,
+            10_000_000,
+            b"limit steps 10000000\n",
+            Status::Limit,
+        ),
+        (CALLING_ITSELF, 0, b"limit steps 10000000\n", Status::Limit),
     ];
-    for (count, written, status) in rows {
-        let case = Case {
-            client: ENDLESS,
-            ..RUN
-        };
+    for (client, count, written, status) in rows {
+        let case = Case { client, ..RUN };
         let mut words = words(alloc, "run")?;
         words.push(many_true(alloc, count)?)?;
         let (found, taken) = outcome_of(alloc, words.as_slice(), &case)?;

@@ -14,7 +14,8 @@ returns-in-Ok g c =
     let client = c.args.client.now in
     answered (held old) (held mid) (faults old) (faults mid) (faults c.perform_on.new.shelf) command c.args.spec.now client
     c.in-Ok.text.items c.perform_on.result c.in-Ok.ensures.text (c.load.ensures.held client) (c.load.ensures.later client)
-    (subst (λ text. ClientAnswers command text (held mid client) (Rose (faults mid client) (faults c.perform_on.new.shelf client)) c.perform_on.result) c.as_slice.ensures.value c.perform_on.ensures.answers)
+    (subst (λ text. ClientAnswers command text (held mid client) (Rose (faults mid client) (faults c.perform_on.new.shelf client)) c.perform_on.result)
+    c.as_slice.ensures.value c.perform_on.ensures.answers)
 
 pub returns-in-Err-TooLong : goal.returns-in-Err-TooLong
 returns-in-Err-TooLong g c = c.in-Err-TooLong.ensures.too_long (search rules)

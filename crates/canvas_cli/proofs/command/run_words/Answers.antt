@@ -4,5 +4,6 @@ use Rattle.canvas_cli.proofs.command.run_words.Goals as goal
 
 pub returns-then-eq : goal.returns-then-eq
 returns-then-eq c =
-    four_words c.args.words.now c.command-item.result c.spec-item.result c.client-item.result c.choices-item.result _ _ _ _ (search rules) (search rules) c.command-item.is c.spec-item.is c.client-item.is c.choices-item.is
+    four_words c.args.words.now c.command-item.result c.spec-item.result c.client-item.result c.choices-item.result _ _ _ _ (search rules) (search rules)
+    c.command-item.is c.spec-item.is c.client-item.is c.choices-item.is
     (search rules) (sym c.as_str-then-eq.ensures.value) (sym c.as_str-then-eq-2.ensures.value) (sym c.as_str-then-eq-3.ensures.value)

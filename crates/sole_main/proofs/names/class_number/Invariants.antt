@@ -1,8 +1,0 @@
-use Rattle.std.proofs.Common.{◌≡◌, drop}
-use Rattle.std.specs.List.{position_from}
-use Rattle.client_model.specs.Lookups.{class_named, is_same}
-use Rattle.sole_main.proofs.names.class_number.Given as goal
-
--- the class is found among those that are left, if at all
-abbrev pub invariant-each : goal.invariant-each
-invariant-each l = position_from (λ c. is_same c.name l.fn.name) l.class (drop l.class l.fn.spec.classes) ≡ class_named l.fn.spec l.fn.name

@@ -1,7 +1,0 @@
-use Rattle.std.proofs.Common.{rules, ap, codes, ◌∙◌}
-use Rattle.std.proofs.lemmas.Str.{chars-IsAscii}
-use Rattle.client_model.specs.Lookups.{is_same}
-use Rattle.sole_main.proofs.words.is_false.Goals as goal
-
-pub returns : goal.returns
-returns c = c.is_text.ensures ∙ ap (is_same c.args.name.now) (chars-IsAscii (codes "false") (search rules))
