@@ -1,14 +1,12 @@
-//! Sets and their iterators, executed on a heap that is worked out by hand, and clients that run on it. Where memory is wanted once, as with
-//! `--fail-alloc`, nothing has changed, and the same is done again.
-ghost use Rattle.std.specs.Prelude.{◌<◌, ◌≤◌, length, IsTrue};
+//! Sets and their iterators, executed on a heap that is worked out by hand. Where memory is wanted once, as with `--fail-alloc`, nothing
+//! has changed, and the same is done again.
+ghost use Rattle.std.specs.Prelude.{◌<◌, length, IsTrue};
 ghost use Rattle.easl_heap.specs.Body.{HasArguments};
 
 use crate::reading::{Refused, checked, checked_again};
-use client_run::{Outcome, run};
 use cv_base::{Memory, push_bytes, push_number};
 use easl_heap::{Done, Heap};
 use easl_model::CheckedSpec;
-use sole_main::read_straight;
 use std::alloc::Global;
 use std::test::Fail;
 
@@ -212,52 +210,5 @@ fn the_most_locals_are_held(rt: HostRuntime) -> Result<(), Memory> {
     assert_eq!(rt; call(&mut heap, &spec, 0, &[]), Some(done(2, 0)));
     let given = call(&mut heap, &spec, 1, &[1, 1, 1, 1, 2]);
     assert_eq!(rt; given, Some(done(2, 64)));
-    Ok(())
-}
-
-const USED: &[u8] = b"void main() {
-  Set v = new Set();
-  Iterator i = v.iterator();
-  i.next();
-}
-";
-
-const USED_AFTER_A_CHANGE: &[u8] = b"void main() {
-  Set v = new Set();
-  Iterator i = v.iterator();
-  v.add(\"a\");
-  i.next();
-}
-";
-
-/// How the client runs on no choices; None where it is not read, or memory is wanted.
-fn outcome_of(alloc: Global, spec: &CheckedSpec, text: &[u8]) -> Option<Outcome>
-    requires { length text.now ≤ 1048576 }
-{
-    match read_straight(alloc, spec, text) {
-        Ok(client) => run(alloc, spec, &client, &[]).ok(),
-        Err(_) => None,
-    }
-}
-
-#[test]
-fn clients_run_on_no_choices(rt: HostRuntime) -> Result<(), Fail> {
-    let alloc = rt.alloc();
-    let Ok(spec) = specification(alloc) else {
-        assert_eq!(rt; "read", "not read");
-        return Ok(());
-    };
-    assert_eq!(rt;
-        outcome_of(alloc, &spec, USED),
-        Some(Outcome::Ends { left: 0 })
-    );
-    assert_eq!(rt;
-        outcome_of(alloc, &spec, USED_AFTER_A_CHANGE),
-        Some(Outcome::Fails {
-            call: 3,
-            clause: 1,
-            left: 0,
-        })
-    );
     Ok(())
 }

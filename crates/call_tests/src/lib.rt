@@ -5,8 +5,6 @@
 #[cfg(test)]
 mod abstractions;
 #[cfg(test)]
-mod client_faults;
-#[cfg(test)]
 mod clients;
 #[cfg(test)]
 mod closures;
