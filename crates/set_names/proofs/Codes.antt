@@ -47,14 +47,10 @@ read is_start statics points xs point inside =
     let long : length (sets_of is_start statics points xs) ≡ suc points = length-map-range_with_len f 0 (suc points) in
     get_or-map-range_with_len f 0 (suc points) point point [] (omega arith) (omega arith)
 
--- the sets of a procedure, and whether a name is in that of a point
-pub static_there : (is_start : Bool) (statics points : ℕ) (xs : List Spans) (point name number : ℕ) → name ≡ 4 * number → point < length (sets_of is_start statics points xs)
-    → nat_lt number (statics_at is_start statics point) ≡ list_any (λ code. code == name) (slice_index_or (sets_of is_start statics points xs) point [])
-static_there is_start statics points xs point name number named inside =
-    let m = statics_at is_start statics point in
-    let numbers = numbers_at xs point in
-    sym (ap (list_any (is name)) (read is_start statics points xs point inside)
-    ∙ ap (λ n. list_any (is n) (codes_of m numbers)) named
+-- by the numbers of statics and variables
+pub static_named : (m : ℕ) (numbers : List ℕ) (name number : ℕ) → name ≡ 4 * number → nat_lt number m ≡ list_any (is name) (codes_of m numbers)
+static_named m numbers name number named =
+    sym (ap (λ n. list_any (is n) (codes_of m numbers)) named
     ∙ parts (4 * number) m numbers
     ∙ ap (λ b. list_any (is (4 * number)) (map static_code (range_with_len 0 m)) || b)
     (none_map (is (4 * number)) variable_code (λ k. ne_eqb (4 * k + 1) (4 * number) (λ same. omega arith)) numbers)
@@ -62,26 +58,38 @@ static_there is_start statics points xs point name number named inside =
     ∙ any_map (is (4 * number)) (λ k. k == number) static_code (static_is number) (range_with_len 0 m)
     ∙ below m number)
 
-pub variable_there : (is_start : Bool) (statics points : ℕ) (xs : List Spans) (point name number : ℕ) → name ≡ 4 * number + 1 → point < length (sets_of is_start statics points xs)
-    → is_set_at xs point number ≡ list_any (λ code. code == name) (slice_index_or (sets_of is_start statics points xs) point [])
-variable_there is_start statics points xs point name number named inside =
-    let m = statics_at is_start statics point in
-    let numbers = numbers_at xs point in
-    sym (ap (list_any (is name)) (read is_start statics points xs point inside)
-    ∙ ap (λ n. list_any (is n) (codes_of m numbers)) named
+pub variable_named : (m : ℕ) (numbers : List ℕ) (name number : ℕ) → name ≡ 4 * number + 1
+    → list_any (λ k. k == number) numbers ≡ list_any (is name) (codes_of m numbers)
+variable_named m numbers name number named =
+    sym (ap (λ n. list_any (is n) (codes_of m numbers)) named
     ∙ parts (4 * number + 1) m numbers
     ∙ ap (λ b. b || list_any (is (4 * number + 1)) (map variable_code numbers))
     (none_map (is (4 * number + 1)) static_code (λ k. ne_eqb (4 * k) (4 * number + 1) (λ same. omega arith)) (range_with_len 0 m))
-    ∙ any_map (is (4 * number + 1)) (λ k. k == number) variable_code (variable_is number) numbers
-    ∙ member xs point number)
+    ∙ any_map (is (4 * number + 1)) (λ k. k == number) variable_code (variable_is number) numbers)
+
+pub none_named : (m : ℕ) (numbers : List ℕ) (name number kind : ℕ) → name ≡ 4 * number + kind → 2 ≤ kind → kind < 4
+    → false ≡ list_any (is name) (codes_of m numbers)
+none_named m numbers name number kind named more few =
+    sym (parts name m numbers
+    ∙ ap (λ b. b || list_any (is name) (map variable_code numbers)) (none_map (is name) static_code (λ k. ne_eqb (4 * k) name (λ same. omega arith)) (range_with_len 0 m))
+    ∙ none_map (is name) variable_code (λ k. ne_eqb (4 * k + 1) name (λ same. omega arith)) numbers)
+
+-- the sets of a procedure, and whether a name is in that of a point
+pub static_there : (is_start : Bool) (statics points : ℕ) (xs : List Spans) (point name number : ℕ) → name ≡ 4 * number → point < length (sets_of is_start statics points xs)
+    → nat_lt number (statics_at is_start statics point) ≡ list_any (λ code. code == name) (slice_index_or (sets_of is_start statics points xs) point [])
+static_there is_start statics points xs point name number named inside =
+    static_named (statics_at is_start statics point) (numbers_at xs point) name number named ∙ sym (ap (list_any (is name)) (read is_start statics points xs point inside))
+
+pub variable_there : (is_start : Bool) (statics points : ℕ) (xs : List Spans) (point name number : ℕ) → name ≡ 4 * number + 1 → point < length (sets_of is_start statics points xs)
+    → is_set_at xs point number ≡ list_any (λ code. code == name) (slice_index_or (sets_of is_start statics points xs) point [])
+variable_there is_start statics points xs point name number named inside =
+    sym (member xs point number)
+    ∙ variable_named (statics_at is_start statics point) (numbers_at xs point) name number named
+    ∙ sym (ap (list_any (is name)) (read is_start statics points xs point inside))
 
 pub none_there : (is_start : Bool) (statics points : ℕ) (xs : List Spans) (point name number kind : ℕ) → name ≡ 4 * number + kind → 2 ≤ kind → kind < 4
     → point < length (sets_of is_start statics points xs)
     → false ≡ list_any (λ code. code == name) (slice_index_or (sets_of is_start statics points xs) point [])
 none_there is_start statics points xs point name number kind named more few inside =
-    let m = statics_at is_start statics point in
-    let numbers = numbers_at xs point in
-    sym (ap (list_any (is name)) (read is_start statics points xs point inside)
-    ∙ parts name m numbers
-    ∙ ap (λ b. b || list_any (is name) (map variable_code numbers)) (none_map (is name) static_code (λ k. ne_eqb (4 * k) name (λ same. omega arith)) (range_with_len 0 m))
-    ∙ none_map (is name) variable_code (λ k. ne_eqb (4 * k + 1) name (λ same. omega arith)) numbers)
+    none_named (statics_at is_start statics point) (numbers_at xs point) name number kind named more few
+    ∙ sym (ap (list_any (is name)) (read is_start statics points xs point inside))

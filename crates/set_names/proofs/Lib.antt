@@ -3,3 +3,4 @@ pub mod Codes
 mod Examples
 pub mod Numbers
 pub mod Standing
+pub mod Trails

@@ -151,6 +151,27 @@ same_one xs j points x y inside is same now =
     sets_same _ _ _ _ _ _ (length-set xs j y) (before_same xs j points x y inside is same)
     (numbers_same xs (set xs j y) points points (length-set xs j y) (λ k. stays xs j points k x y inside is now))
 
+-- which ones are set then
+pub set_members : (xs : List Spans) (j points : ℕ) (y : Spans) → j < length xs → holds points y ≡ true → (k : ℕ)
+    → list_any (λ n. n == k) (numbers_at (set xs j y) points) ≡ ((k == j) || list_any (λ n. n == k) (numbers_at xs points))
+set_members xs j points y inside now k = member (set xs j y) points k ∙ replaced xs j points k y inside ∙ by (k == j)
+  where
+    by : (b : Bool) → cond b (holds points y) (is_set_at xs points k) ≡ (b || list_any (λ n. n == k) (numbers_at xs points))
+    by true = now
+    by false = sym (member xs points k)
+
+pub unset_members : (xs : List Spans) (j points : ℕ) (y : Spans) → j < length xs → holds points y ≡ false → (k : ℕ)
+    → list_any (λ n. n == k) (numbers_at (set xs j y) points) ≡ (not (k == j) && list_any (λ n. n == k) (numbers_at xs points))
+unset_members xs j points y inside now k = member (set xs j y) points k ∙ replaced xs j points k y inside ∙ by (k == j)
+  where
+    by : (b : Bool) → cond b (holds points y) (is_set_at xs points k) ≡ (not b && list_any (λ n. n == k) (numbers_at xs points))
+    by true = now
+    by false = sym (member xs points k)
+
+-- they are in order
+pub by_number : (xs : List Spans) (points : ℕ) → numbers_at xs points ≡ filter (λ k. list_any (λ n. n == k) (numbers_at xs points)) (range_with_len 0 (length xs))
+by_number xs points = filter_agree (is_set_at xs points) (λ k. list_any (λ n. n == k) (numbers_at xs points)) (λ k. sym (member xs points k)) (range_with_len 0 (length xs))
+
 -- one more variable, which is not set
 added : (xs : List Spans) (e : Spans) (point k : ℕ) → holds point e ≡ false → is_set_at (xs ++ e ∷ []) point k ≡ is_set_at xs point k
 added [] e point zero unset = unset
@@ -158,7 +179,7 @@ added [] e point (suc k) unset = refl
 added (x ∷ xs) e point zero unset = refl
 added (x ∷ xs) e point (suc k) unset = added xs e point k unset
 
-range_more : (a n : ℕ) → range_with_len a (suc n) ≡ range_with_len a n ++ (a + n) ∷ []
+pub range_more : (a n : ℕ) → range_with_len a (suc n) ≡ range_with_len a n ++ (a + n) ∷ []
 range_more a zero = ap (λ k. k ∷ []) (omega arith)
 range_more a (suc n) =
     let further : a + 1 + n ≡ a + suc n = omega arith in

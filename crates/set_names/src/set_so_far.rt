@@ -67,9 +67,10 @@ impl SetSoFar {
     /// From here on the variable is set.
     pub fn set(&mut self, variable: u32)
         requires { variable < self.old.variables }
-        ensures { self.new ≡ record self.old {
+        ensures set { self.new ≡ record self.old {
           now = filter (λ k. (k == variable) || list_any (λ n. n == k) self.old.now) (range_with_len 0 self.old.variables);
         } }
+        ensures members { (k : ℕ) → list_any (λ n. n == k) self.new.now ≡ ((k == variable) || list_any (λ n. n == k) self.old.now) }
     {
         let spans = &mut self.variables[variable as usize];
         begin_at(spans, self.points);
@@ -81,6 +82,7 @@ impl SetSoFar {
         ensures unset { OnOk result (self.new ≡ record self.old {
           now = filter (λ k. not (k == variable) && list_any (λ n. n == k) self.old.now) (range_with_len 0 self.old.variables);
         }) }
+        ensures members { OnOk result ((k : ℕ) → list_any (λ n. n == k) self.new.now ≡ (not (k == variable) && list_any (λ n. n == k) self.old.now)) }
         ensures unchanged { OnErr result (self.new ≡ self.old) }
     {
         let spans = &mut self.variables[variable as usize];
@@ -90,6 +92,7 @@ impl SetSoFar {
 
     /// The next point is come to. `Memory` changes nothing; it comes where points run out.
     pub fn pass(&mut self) -> Result<(), Memory>
+        ensures by_number { self.old.now ≡ filter (λ k. list_any (λ n. n == k) self.old.now) (range_with_len 0 self.old.variables) }
         ensures passed { OnOk result (self.new ≡ record self.old { before = self.old.before ++ self.old.now ∷ [] }) }
         ensures unchanged { OnErr result (self.new ≡ self.old) }
     {
@@ -102,7 +105,8 @@ impl SetSoFar {
 
     /// The names that are set in the whole procedure, whose exit is come to. All statics are. It takes no memory.
     pub fn finish(self, statics: u32) -> SetNames
-        ensures { result ≡ map (codes_of statics) (self.before ++ self.now ∷ []) }
+        ensures set { result ≡ map (codes_of statics) (self.before ++ self.now ∷ []) }
+        ensures by_number { self.now ≡ filter (λ k. list_any (λ n. n == k) self.now) (range_with_len 0 self.variables) }
     {
         SetNames::new(statics, self.points, self.variables)
     }
