@@ -7,7 +7,8 @@ use Rattle.std.proofs.lemmas.Bool.{and_parts, eqb-true, or_cases}
 use Rattle.std.proofs.lemmas.Map.Views.{any-filter_same}
 use Rattle.client_model.specs.Bodies.{all_in, end_of}
 use Rattle.client_model.specs.Codes.{variable_code}
-use Rattle.client_model.specs.Contexts.{Assigned, Context, Everything, Situated, These, after, after_all, behind_block, counting, ends_going_on, entered, evaluated, goes_on, has, looping, meet, situated, situated_in, value_of_test, with_code}
+use Rattle.client_model.specs.Contexts.{Assigned, Context, Everything, Situated, These, after, after_all, behind_block, counting, ends_going_on}
+use Rattle.client_model.specs.Contexts.{entered, evaluated, goes_on, has, looping, meet, situated, situated_in, value_of_test, with_code}
 use Rattle.client_model.specs.Kept.{Behind, BodiesKeepNames, KeepAll, Keeps, Within, first_assigned, in_loop}
 use Rattle.client_model.specs.Points.{assigned_at_exit, at_return}
 use Rattle.client_model.specs.Settings.{Setting, Variable, variable_named}
@@ -17,14 +18,14 @@ abbrev Tells : Bool → Type 0
 Tells true = ⊥
 Tells false = Unit {0}
 
-false-not : false ≡ true → ⊥
+pub false-not : false ≡ true → ⊥
 false-not h = subst Tells h tt
 
-or_left : (x y : Bool) → x ≡ true → (x || y) ≡ true
+pub or_left : (x y : Bool) → x ≡ true → (x || y) ≡ true
 or_left true y h = refl
 or_left false y h = absurd (false-not h)
 
-or_right : (x y : Bool) → y ≡ true → (x || y) ≡ true
+pub or_right : (x y : Bool) → y ≡ true → (x || y) ≡ true
 or_right true y h = refl
 or_right false y h = h
 
@@ -47,7 +48,7 @@ both_true : (x y : Bool) → x ≡ true → y ≡ true → (x && y) ≡ true
 both_true true y h k = k
 both_true false y h k = h
 
-meet_of : (xs ys : Assigned) (code : ℕ) → has xs code ≡ true → has ys code ≡ true → has (meet xs ys) code ≡ true
+pub meet_of : (xs ys : Assigned) (code : ℕ) → has xs code ≡ true → has ys code ≡ true → has (meet xs ys) code ≡ true
 meet_of xs ys code h k = has_meet xs ys code ∙ both_true (has ys code) (has xs code) k h
 
 -- one more
@@ -75,7 +76,7 @@ named_parts (Some v) xs code h = with_parts v.code xs code h
 
 -- behind a block
 
-block_grows : (so : Bool) (xs : Assigned) (code : ℕ) → has xs code ≡ true → has (if so then xs else Everything) code ≡ true
+pub block_grows : (so : Bool) (xs : Assigned) (code : ℕ) → has xs code ≡ true → has (if so then xs else Everything) code ≡ true
 block_grows true xs code h = h
 block_grows false xs code h = refl
 
@@ -84,7 +85,7 @@ block_has so xs code is h = sym (ap (λ b. has (if b then xs else Everything) co
 
 -- nothing is lost behind statements
 mutual
-  grows : (s : Setting) (c : Context) (x : Statement) → Within c.assigned (after s c x).assigned
+  pub grows : (s : Setting) (c : Context) (x : Statement) → Within c.assigned (after s c x).assigned
   grows s c (Declare place sort w None) code h = h
   grows s c (Declare place sort w (Some v)) code h = with_grows (variable_code c.variables) c.assigned code h
   grows s c (Assign w v) code h = named_grows (variable_named s c.scope w.name) c.assigned code h
@@ -100,7 +101,7 @@ mutual
   grows s c (Continue place) code h = h
   grows s c (Return r) code h = h
 
-  all_grow : (s : Setting) (c : Context) (xs : Statements) → Within c.assigned (after_all s c xs).assigned
+  pub all_grow : (s : Setting) (c : Context) (xs : Statements) → Within c.assigned (after_all s c xs).assigned
   all_grow s c none code h = h
   all_grow s c (x ▸ xs) code h = all_grow s (after s c x) xs code (grows s c x code h)
 

@@ -10,7 +10,9 @@ use Rattle.client_model.specs.declared.tree.Rhs.{Rhs}
 use Rattle.client_model.specs.declared.tree.Rhs.TheVariants as rhs
 use Rattle.client_model.specs.declared.tree.Test.{Test}
 use Rattle.client_model.specs.declared.tree.Test.TheVariants as test
-use Rattle.client_model.specs.BodyFaults.{differs, faults_at, faults_of_arguments, faults_of_call, faults_of_read, faults_of_returned, faults_of_statement, faults_of_taken, faults_of_test, faults_of_value, named_twice, no_method, no_procedure, no_test, no_variable, opaque_receiver, returned_to_none, unreachable, wrong_number}
+use Rattle.client_model.specs.BodyFaults.{differs, faults_at, faults_of_arguments, faults_of_call, faults_of_read, faults_of_returned}
+use Rattle.client_model.specs.BodyFaults.{faults_of_statement, faults_of_taken, faults_of_test, faults_of_value, named_twice, no_method, no_procedure}
+use Rattle.client_model.specs.BodyFaults.{no_test, no_variable, opaque_receiver, returned_to_none, unreachable, wrong_number}
 use Rattle.client_model.specs.Codes.{variable_code}
 use Rattle.client_model.specs.Contexts.{Assigned, Context, Situated, has, value_of_test}
 use Rattle.client_model.specs.Faults.{Fault, Unknown, Unset, broken_if}

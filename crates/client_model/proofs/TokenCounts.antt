@@ -3,7 +3,9 @@ use Rattle.std.proofs.Common.{◌≡◌, ℕ, suc, ◌+◌, ◌≤◌, Bool, Lis
 use Rattle.std.specs.Prelude.{None, Some, false, true}
 use Rattle.std.proofs.lemmas.Str.{chars-encodes, length-le-encodes}
 use Rattle.client_model.proofs.PlainStatements.{plain, plain_assign, plain_break, plain_continue, plain_declare, plain_do, plain_if, plain_return, plain_while}
-use Rattle.client_model.specs.Grammar.{IsBlock, IsClient, IsItems, IsProc, IsReturn, IsStatic, IsStmt, IsStmts, act, assign, bare_return, block, break, client, continue, declare, declare_set, if_alone, if_else, next_procedure, next_static, next_stmt, no_items, no_stmts, procedure, return, static, while, with_return}
+use Rattle.client_model.specs.Grammar.{IsBlock, IsClient, IsItems, IsProc, IsReturn, IsStatic, IsStmt, IsStmts, act, assign, bare_return, block, break}
+use Rattle.client_model.specs.Grammar.{client, continue, declare, declare_set, if_alone, if_else, next_procedure, next_static, next_stmt, no_items}
+use Rattle.client_model.specs.Grammar.{no_stmts, procedure, return, static, while, with_return}
 use Rattle.client_model.specs.Nodes.{count, count_in}
 use Rattle.client_model.specs.Statements.{statement_of}
 use Rattle.client_model.specs.Trees.{Initialiser, Item, Procedure, client_of, items_of}

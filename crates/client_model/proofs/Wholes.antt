@@ -23,10 +23,10 @@ abbrev IsEmpty : {A : Type 0} → List A → Type 0
 IsEmpty [] = Unit {0}
 IsEmpty (x ∷ xs) = ⊥
 
-not_empty : {A : Type 0} (x : A) (xs : List A) → x ∷ xs ≡ [] → ⊥
+pub not_empty : {A : Type 0} (x : A) (xs : List A) → x ∷ xs ≡ [] → ⊥
 not_empty x xs h = subst IsEmpty (sym h) tt
 
-looped_by : (looped : Bool) (place : Place) → broken_if (not looped) OutsideLoop place ≡ [] → looped ≡ true
+pub looped_by : (looped : Bool) (place : Place) → broken_if (not looped) OutsideLoop place ≡ [] → looped ≡ true
 looped_by true place h = refl
 looped_by false place h = absurd (not_empty (fault OutsideLoop place) [] h)
 

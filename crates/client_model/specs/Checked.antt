@@ -1,5 +1,5 @@
 -- What every checked client keeps.
-use Rattle.std.specs.Prelude.{◌≡◌, ◌≤◌, [], All, length, map}
+use Rattle.std.specs.Prelude.{◌≤◌, All, length, map}
 use Rattle.client_model.specs.Nodes.{tree_of, trees}
 use Rattle.client_model.specs.Program as told
 use Rattle.client_model.specs.declared.form.Procedure.{Procedure}
@@ -8,7 +8,7 @@ use Rattle.client_model.specs.Fits.{Fits}
 use Rattle.easl_model.specs.Checked.{IsChecked}
 use Rattle.easl_model.specs.Form.{Form}
 
--- the code's procedure, its nodes as trees. It does not keep yet which names are set
+-- the code's procedure, its nodes as trees
 abbrev pub procedure_seen : Procedure → ProcedureForm
 procedure_seen p = record {
   name = p.name;
@@ -17,24 +17,15 @@ procedure_seen p = record {
   variables = p.variables;
   points = p.points;
   shape = trees (map tree_of p.shape);
-  set = [];
+  set = p.set;
 }
 
 abbrev pub seen : told.ClientForm → ClientForm
 seen c = record { statics = c.statics; procedures = map procedure_seen c.procedures; calls = c.calls }
 
-abbrev pub without_set : ProcedureForm → ProcedureForm
-without_set x = record x { set = [] }
-
--- the checked form without the names that are set, which no run reads
-abbrev pub without_sets : ClientForm → ClientForm
-without_sets c = record c { procedures = map without_set c.procedures }
-
--- the code's form is that of a client that is well-formed for this specification, but for the names that are set
-pub record IsFitting (form : Form) (c : told.ClientForm) : Type 0 where
-  pub whole : ClientForm
-  pub fits : Fits form whole
-  pub is : seen c ≡ without_sets whole
+-- the code's form is that of a client that is well-formed for this specification
+abbrev pub IsFitting : Form → told.ClientForm → Type 0
+IsFitting form c = Fits form (seen c)
 
 -- it fits some checked specification
 pub record IsCheckedClient (c : told.ClientForm) : Type 0 where

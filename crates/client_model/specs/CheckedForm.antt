@@ -1,6 +1,4 @@
 -- The checked form of a client: numbers and codes in place of names. Where a rule is broken it says nothing.
---
--- client_model's procedures have no sets yet, and a list of nodes as shape; this form has the trees of those.
 use Rattle.std.specs.Prelude.{ℕ, zero, suc, List, [], ◌∷◌, ◌++◌, Option, Some, None, codes, filter_map, if◌then◌else◌, length, map}
 use Rattle.std.specs.List.{flat_map}
 use Rattle.client_model.specs.declared.form.CallSite.{CallSite}

@@ -17,6 +17,7 @@ pub mod Points
 pub mod Program
 pub mod Reads
 pub mod Rules
+pub mod SetNumbers
 pub mod Settings
 pub mod Spelling
 pub mod Statements

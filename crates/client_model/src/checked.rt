@@ -4,7 +4,7 @@ use sqlite_items::Items;
 use std::marker::Model;
 
 /// A checked client, which contracts see as its checked form: that of a client that is well-formed for some checked
-/// specification, but for the names that are set at its points, which it does not keep yet.
+/// specification.
 #[derive(Debug, Drop)]
 pub struct CheckedClient {
     statics: Items<Option<u32>>,

@@ -3,10 +3,11 @@
 //! None stands for an opaque variable or value. Points are numbered from 0 in text order, an `if` or `while` before
 //! what it holds; the exit is the number after the last.
 use easl_model::{Name, Place};
+use set_names::SetNames;
 use sqlite_items::Items;
 
-/// A procedure: the classes of its parameters, its result and its variables, what is done at each point, and how
-/// its statements stand in one another.
+/// A procedure: the classes of its parameters, its result and its variables, what is done at each point, how its
+/// statements stand in one another, and which names are surely assigned at each point and at the exit.
 #[derive(Debug, Drop)]
 pub struct Procedure {
     pub name: Name,
@@ -15,6 +16,7 @@ pub struct Procedure {
     pub variables: Items<Option<u32>>,
     pub points: Items<Point>,
     pub shape: Items<Node>,
+    pub set: SetNames,
 }
 
 /// A statement by its point: one after which the next of its block is done, an `if` with both its branches, a `while`, or

@@ -3,6 +3,7 @@ ghost use Rattle.client_model.specs.Codes.{CodesTellNames};
 ghost use Rattle.client_model.specs.FirstFault.{FirstIsLeast, NoneIsWellFormed};
 ghost use Rattle.client_model.specs.Kept.{BodiesKeepNames, StepsKeepNames};
 ghost use Rattle.client_model.specs.Reads.{ArgumentsAreSet, ReadsAreSet};
+ghost use Rattle.client_model.specs.SetNumbers.{NothingIsEverything, SetsAreByNumber};
 ghost use Rattle.client_model.specs.Laws.{EachHasWays, FirstIsFirst, PointsAreNumbered};
 
 /// Each name code tells the static, variable, hidden slot or result that it stands for.
@@ -22,6 +23,13 @@ pub fn points_are_numbered()
 pub fn steps_keep_names()
     ensures statements { BodiesKeepNames }
     ensures points { StepsKeepNames }
+{}
+
+/// In a whole body that breaks no rule some names are assigned at each point, and never everything; and the names that are
+/// set there are the statics and the variables that are set.
+pub fn sets_are_by_number()
+    ensures only { NothingIsEverything }
+    ensures by_number { SetsAreByNumber }
 {}
 
 /// What a statement that breaks no rule reads is surely assigned there: what is copied or handed to a procedure, and the

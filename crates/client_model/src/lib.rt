@@ -10,6 +10,7 @@ mod tree;
 pub use checked::CheckedClient;
 pub use form::{CallSite, Node, Point, Procedure};
 pub use laws::{
-    codes_tell_names, first_is_least, points_are_numbered, reads_are_set, steps_keep_names,
+    codes_tell_names, first_is_least, points_are_numbered, reads_are_set, sets_are_by_number,
+    steps_keep_names,
 };
 pub use tree::{Call, Client, Component, New, Proc, Return, Rhs, Static, Stmt, Test};
