@@ -1,9 +1,10 @@
 //! The forms of procedures, of the start and of the statics.
 ghost use Rattle.std.specs.Prelude.{◌≡◌, ◌++◌, ◌∷◌, [], IfOk, filter_map, length, map, suc};
 ghost use Rattle.client_model.specs.Nodes.{tree_of, trees};
+ghost use Rattle.client_points.specs.Wholes.{unset_seen, without_set};
 ghost use Rattle.client_points.specs.Writing.{initial_of};
 ghost use Rattle.client_model.specs.Bodies.{Body, all_in};
-ghost use Rattle.client_model.specs.Checked.{procedure_seen, without_set};
+ghost use Rattle.client_model.specs.Checked.{procedure_seen};
 ghost use Rattle.client_model.specs.CheckedForm as told;
 ghost use Rattle.client_model.specs.Points.{declared_at, point_of};
 ghost use Rattle.client_model.specs.Settings.{class_in};
@@ -14,6 +15,7 @@ use crate::shape::shape_of;
 use client_model::{Node, Point, Proc, Procedure};
 use client_values::{Variable, class_in, is_main, kind_of};
 use easl_model::{CheckedSpec, Name, Param};
+use set_names::SetNames;
 use sqlite_items::Items;
 use std::alloc::{AllocError, Global};
 
@@ -43,17 +45,20 @@ pub fn statics_form(alloc: Global, statics: &[Variable]) -> Result<Items<Option<
     Ok(classes)
 }
 
-/// The form of a procedure whose body comes to these points and, behind its parameters, variables.
+/// The form of a procedure whose body comes to these points and, behind its parameters, variables, and at whose points these
+/// names are set.
 pub fn procedure_form(
     alloc: Global,
     spec: &CheckedSpec,
     procedure: &Proc,
     points: Items<Point>,
     variables: Items<Option<u32>>,
+    set: SetNames,
 ) -> Result<Procedure, AllocError>
-    ensures { IfOk result (λ form. (b : Body) → b.statements ≡ (trees.procedure_of procedure.now).body
+    ensures form { IfOk result (λ form. (b : Body) → b.statements ≡ (trees.procedure_of procedure.now).body
         → points ≡ map point_of (all_in b) → variables ≡ told.classes_of spec.now procedure.now.params ++ filter_map declared_at (all_in b)
-        → procedure_seen form ≡ without_set (told.procedure_form spec.now b (trees.procedure_of procedure.now))) }
+        → unset_seen form ≡ without_set (told.procedure_form spec.now b (trees.procedure_of procedure.now))) }
+    ensures set { IfOk result (λ form. form.set ≡ set) }
 {
     Ok(Procedure {
         name: Name(String::from_str(alloc, procedure.name.name.0.as_str())?),
@@ -62,6 +67,7 @@ pub fn procedure_form(
         variables,
         points,
         shape: shape_of(alloc, procedure.body.as_slice(), 0)?,
+        set,
     })
 }
 
@@ -117,11 +123,12 @@ pub fn start_form(
     initial: Items<Point>,
 ) -> Result<Procedure, AllocError>
     ensures { IfOk result (λ start. (form : Form) (client : trees.Client) → map trees.procedure_of procedures.now ≡ trees.procedures_in client.items
-        → initial ≡ map point_of (initial_of form client) → procedure_seen start ≡ without_set (told.start_form form client)) }
+        → initial ≡ map point_of (initial_of form client) → procedure_seen start ≡ told.start_form form client) }
 {
     let mut points = initial;
+    let statics = count_of(points.as_slice())?;
+    let count = statics.checked_add(1).ok_or(AllocError)?;
     points.push(call_of_main(alloc, procedures)?)?;
-    let count = count_of(points.as_slice())?;
     Ok(Procedure {
         name: Name(String::from_str(alloc, "start")?),
         params: Items::new(alloc),
@@ -129,5 +136,6 @@ pub fn start_form(
         variables: Items::new(alloc),
         points,
         shape: steps(alloc, count)?,
+        set: SetNames::of_start(alloc, statics),
     })
 }

@@ -1,8 +1,9 @@
 //! The checked form of a whole client, of the parts that were written of it.
-ghost use Rattle.std.specs.Prelude.{◌≡◌, IfOk, map};
+ghost use Rattle.std.specs.Prelude.{◌≡◌, [], IfOk, map};
 ghost use Rattle.client_points.specs.Wholes.{AreBodies};
-ghost use Rattle.client_model.specs.Checked.{seen, without_sets};
+ghost use Rattle.client_model.specs.Checked.{seen};
 ghost use Rattle.client_model.specs.CheckedForm.{form_of};
+ghost use Rattle.client_model.specs.Rules.{faults_of_bodies};
 ghost use Rattle.client_model.specs.Trees as trees;
 ghost use Rattle.easl_model.specs.Form.{Form};
 
@@ -29,11 +30,11 @@ pub struct Parts {
     pub calls: Items<CallSite>,
 }
 
-/// The parts of the client whose procedures these are and whose items come to this.
+/// The parts of the client, which breaks no rule, whose procedures these are and whose items come to this.
 pub fn parts_of(alloc: Global, procedures: &[Proc], bodies: Bodies) -> Result<Parts, AllocError>
     ensures { IfOk result (λ parts. (form : Form) (client : trees.Client) → map trees.procedure_of procedures.now ≡ trees.procedures_in client.items
-        → AreBodies form client bodies
-        → seen (record { statics = parts.statics; procedures = parts.procedures; calls = parts.calls }) ≡ without_sets (form_of form client)) }
+        → AreBodies form client bodies → faults_of_bodies form client ≡ []
+        → seen (record { statics = parts.statics; procedures = parts.procedures; calls = parts.calls }) ≡ form_of form client) }
 {
     let start = start_form(alloc, procedures, bodies.initial)?;
     let mut all = Items::new(alloc);

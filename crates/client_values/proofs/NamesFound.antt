@@ -24,7 +24,8 @@ rest_is (y ∷ ys) (suc k) x is = rest_is ys k x is
 pub found_here : {A : Type 0} (test : A → Bool) (xs : List A) (k : ℕ) (x : A) → slice_get xs k ≡ Some x → test x ≡ true → position_from test k (drop k xs) ≡ Some k
 found_here test xs k x is passes = rw (rest_is xs k x is, passes) refl
 
-pub passed_over : {A : Type 0} (test : A → Bool) (xs : List A) (k : ℕ) (x : A) → slice_get xs k ≡ Some x → test x ≡ false → position_from test k (drop k xs) ≡ position_from test (k + 1) (drop (k + 1) xs)
+pub passed_over : {A : Type 0} (test : A → Bool) (xs : List A) (k : ℕ) (x : A) → slice_get xs k ≡ Some x → test x ≡ false
+    → position_from test k (drop k xs) ≡ position_from test (k + 1) (drop (k + 1) xs)
 passed_over test xs k x is fails =
     let next : k + 1 ≡ suc k = omega arith in
     rw (rest_is xs k x is, fails) (ap (λ n. position_from test (k + 1) (drop n xs)) (sym next))
@@ -40,12 +41,15 @@ some_class form k other named = there (slice_get form.classes k) refl named
 abbrev NamedSo : List ℕ → ClassForm → Bool
 NamedSo name c = is_same c.name name
 
-pub class_here : (form : Form) (k : ℕ) (name other : List ℕ) → option_map (λ c. c.name) (slice_get form.classes k) ≡ Some other → other ≡ name → position_from (NamedSo name) k (drop k form.classes) ≡ class_named form name → Some k ≡ class_named form name
+pub class_here : (form : Form) (k : ℕ) (name other : List ℕ) → option_map (λ c. c.name) (slice_get form.classes k) ≡ Some other → other ≡ name
+    → position_from (NamedSo name) k (drop k form.classes) ≡ class_named form name → Some k ≡ class_named form name
 class_here form k name other there same left =
     let found = some_class form k other there in
     sym (found_here (NamedSo name) form.classes k found.0 found.1 (same_is found.0.name name (found.2 ∙ same))) ∙ left
 
-pub class_passed : (form : Form) (k : ℕ) (name other : List ℕ) → option_map (λ c. c.name) (slice_get form.classes k) ≡ Some other → other ≢ name → position_from (NamedSo name) k (drop k form.classes) ≡ class_named form name → position_from (NamedSo name) (k + 1) (drop (k + 1) form.classes) ≡ class_named form name
+pub class_passed : (form : Form) (k : ℕ) (name other : List ℕ) → option_map (λ c. c.name) (slice_get form.classes k) ≡ Some other → other ≢ name
+    → position_from (NamedSo name) k (drop k form.classes) ≡ class_named form name
+    → position_from (NamedSo name) (k + 1) (drop (k + 1) form.classes) ≡ class_named form name
 class_passed form k name other there differs left =
     let found = some_class form k other there in
     sym (passed_over (NamedSo name) form.classes k found.0 found.1 (other_is found.0.name name (λ same. differs (sym found.2 ∙ same)))) ∙ left

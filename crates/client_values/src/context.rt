@@ -1,5 +1,5 @@
 //! What stands before a statement.
-ghost use Rattle.std.specs.Prelude.{◌≡◌, ◌==◌, option_map};
+ghost use Rattle.std.specs.Prelude.{◌≡◌, option_map};
 ghost use Rattle.std.specs.List.{list_any};
 ghost use Rattle.client_values.specs.Knowing.{Knows, is_marked};
 ghost use Rattle.client_model.specs.Lookups.{is_same};
@@ -9,12 +9,13 @@ ghost use Rattle.client_model.specs.Settings.{variable_named};
 use crate::scope::{Scope, Variable};
 use crate::setting::Setting;
 use easl_model::Name;
+use set_names::NamesSoFar;
 use sqlite_items::Items;
 
-/// What is surely assigned: the names of these codes; or everything, where nothing goes on to.
+/// What is surely assigned: some names; or everything, where nothing goes on to.
 #[derive(Debug, Drop)]
 pub struct Assigned {
-    pub codes: Items<u32>,
+    pub names: NamesSoFar,
     pub everything: bool,
 }
 
@@ -61,20 +62,8 @@ pub(crate) fn is_assigned(context: &Context, code: u32) -> bool
     has(&context.assigned, code)
 }
 
-pub fn has(assigned: &Assigned, code: u32) -> bool
+fn has(assigned: &Assigned, code: u32) -> bool
     ensures { result ≡ is_marked assigned.now code }
 {
-    assigned.everything || is_among(assigned.codes.as_slice(), code)
-}
-
-#[tactic(auto, using(std::proofs::lemmas::List::drop_more))]
-fn is_among(codes: &[u32], code: u32) -> bool
-    ensures { result ≡ list_any (λ x. x == code) codes.now }
-{
-    'each: for other in codes {
-        if *other == code {
-            return true;
-        }
-    }
-    false
+    assigned.everything || assigned.names.has(code)
 }

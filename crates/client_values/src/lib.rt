@@ -15,7 +15,7 @@ mod values;
 mod words;
 
 pub use callee::{constructor_called, method_called};
-pub use context::{Assigned, Context, has, is_local, variable_named};
+pub use context::{Assigned, Context, is_local, variable_named};
 pub use fault::{Fault, Rule, note_if};
 pub use headers::{Header, Headers};
 pub use kind::{Kind, class_in, kind_of};

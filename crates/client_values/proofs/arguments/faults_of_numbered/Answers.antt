@@ -8,5 +8,6 @@ use Rattle.client_values.proofs.arguments.faults_of_numbered.Goals as goal
 pub returns-in-Some : goal.returns-in-Some
 returns-in-Some c d knows =
     subst (λ m. Finds c.args.found c.faults_of_method_call.result (faults_of_call c.args.setting.now d c.args.place m c.args.args.now))
-    (sym (numbered c.args.setting.now.form c.in-Some.number c.args.number c.method-method.result.now c.in-Some.is (sym (ap (λ s. slice_get s.form.methods c.in-Some.number) c.setting.view_is) ∙ c.method-method.ensures.value)))
+    (sym (numbered c.args.setting.now.form c.in-Some.number c.args.number c.method-method.result.now c.in-Some.is
+    (sym (ap (λ s. slice_get s.form.methods c.in-Some.number) c.setting.view_is) ∙ c.method-method.ensures.value)))
     (c.faults_of_method_call.ensures d knows c.in-Some.number)

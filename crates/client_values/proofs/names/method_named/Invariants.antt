@@ -6,4 +6,5 @@ use Rattle.client_values.proofs.names.method_named.Given as goal
 
 -- the method is found among those that are left, if at all
 abbrev pub invariant-each : goal.invariant-each
-invariant-each l = position_from (λ m. not m.constructor && (m.class == l.fn.class) && is_same m.name l.fn.name) l.number (drop l.number l.fn.spec.methods) ≡ method_named l.fn.spec l.fn.class l.fn.name
+invariant-each l = position_from (λ m. not m.constructor && (m.class == l.fn.class) && is_same m.name l.fn.name) l.number
+    (drop l.number l.fn.spec.methods) ≡ method_named l.fn.spec l.fn.class l.fn.name

@@ -13,6 +13,7 @@ returns-in-Some c d knows =
     c.in-Some.ensures ∙ ap (λ s. procedure_from 1 s.procedures name) c.setting.view_is in
     subst (λ m. Finds c.args.found c.faults_of_procedure_call.result (faults_of_call c.args.setting.now d c.args.call.now.procedure.place m c.args.call.now.args))
     called
-    (subst (λ xs. Finds c.args.found c.faults_of_procedure_call.result (faults_of_call c.args.setting.now d c.args.call.now.procedure.place (Some (callee_by_header c.in-Some.field-0-0 c.in-Some.header.now)) xs))
+    (subst (λ xs. Finds c.args.found c.faults_of_procedure_call.result
+    (faults_of_call c.args.setting.now d c.args.call.now.procedure.place (Some (callee_by_header c.in-Some.field-0-0 c.in-Some.header.now)) xs))
     c.as_slice-args.ensures
     (c.faults_of_procedure_call.ensures d knows c.in-Some.field-0-0))
