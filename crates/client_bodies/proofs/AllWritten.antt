@@ -11,15 +11,15 @@ use Rattle.client_model.specs.declared.form.Procedure.{Procedure}
 use Rattle.client_model.specs.declared.tree.Proc.{Proc}
 use Rattle.client_model.specs.declared.tree.Static.{Static}
 use Rattle.client_points.proofs.WholeForm.{both_bodies}
-use Rattle.client_points.specs.Wholes.{AreBodies, Whole, with_bodies}
+use Rattle.client_points.specs.Wholes.{AreBodies, Whole, sets_by, unset_seen, with_bodies, without_set}
 use Rattle.client_points.specs.Writing.{at, written_with}
 use Rattle.client_points.specs.declared.whole.Bodies.{Bodies}
 use Rattle.client_points.specs.declared.written.Written.{Written}
-use Rattle.client_model.specs.Bodies.{all_in, before_initialiser, bodies_from, body_of, end_of, initialiser}
-use Rattle.client_model.specs.Checked.{procedure_seen, without_set}
+use Rattle.client_model.specs.Bodies.{all_in, before_initialiser, bodies_from, bodies_of, body_of, end_of, initialiser}
 use Rattle.client_model.specs.CheckedForm.{ProcedureForm, procedure_form}
 use Rattle.client_model.specs.Contexts.{call_count}
 use Rattle.client_model.specs.Points.{point_of, site_at}
+use Rattle.client_model.specs.Rules.{faults_of_bodies}
 use Rattle.client_model.specs.Settings.{Setting, class_in, setting_of}
 use Rattle.client_model.specs.Trees.{Client, Item, Procedure as ProcedureItem, items_of, procedure_of}
 use Rattle.easl_model.specs.Form.{Form}
@@ -54,17 +54,17 @@ initialiser_written s order ss ps number next procedure calls behind x old new t
 -- a procedure that is written
 pub procedure_own : (s : Setting) (number count : ℕ) (p : Proc) (points : List Point) (forms more : List Procedure) (calls all : List CallSite) (f : Procedure)
     → more ≡ forms ++ f ∷ []
-    → procedure_seen f ≡ without_set (procedure_form s.form (body_of s number count (procedure_of p)) (procedure_of p))
+    → unset_seen f ≡ without_set (procedure_form s.form (body_of s number count (procedure_of p)) (procedure_of p))
     → all ≡ calls ++ filter_map site_at (all_in (body_of s number count (procedure_of p)))
-    → (record { initial = points; procedures = map procedure_seen more; calls = all })
-    ≡ with_bodies s.form (body_of s number count (procedure_of p) ∷ []) (record { initial = points; procedures = map procedure_seen forms; calls = calls })
+    → (record { initial = points; procedures = map unset_seen more; calls = all })
+    ≡ with_bodies s.form (body_of s number count (procedure_of p) ∷ []) (record { initial = points; procedures = map unset_seen forms; calls = calls })
 procedure_own s number count p points forms more calls all f pushed made written =
     let b = body_of s number count (procedure_of p) in
     let own = without_set (procedure_form s.form b (procedure_of p)) in
-    ap (λ ps. record { initial = ps; procedures = map procedure_seen more; calls = all }) (sym (append-nil points))
+    ap (λ ps. record { initial = ps; procedures = map unset_seen more; calls = all }) (sym (append-nil points))
     ∙ ap (λ fs. record { initial = points ++ []; procedures = fs; calls = all })
-    (ap (map procedure_seen) pushed ∙ map-append procedure_seen forms (f ∷ []) ∙ ap (λ g. map procedure_seen forms ++ g ∷ []) made)
-    ∙ ap (λ cs. record { initial = points ++ []; procedures = map procedure_seen forms ++ own ∷ []; calls = cs })
+    (ap (map unset_seen) pushed ∙ map-append unset_seen forms (f ∷ []) ∙ ap (λ g. map unset_seen forms ++ g ∷ []) made)
+    ∙ ap (λ cs. record { initial = points ++ []; procedures = map unset_seen forms ++ own ∷ []; calls = cs })
     (written ∙ ap (λ xs. calls ++ filter_map site_at xs) (sym (append-nil (all_in b))))
 
 pub procedure_written : (s : Setting) (order : List Bool) (ss : List Static) (ps : List Proc) (static before number calls behind : ℕ) (p : Proc) (old new : Whole)
@@ -98,10 +98,13 @@ all_begun s order ss ps w static calls empty first none =
 -- behind the last
 pub bodies_are : (form : Form) (client : Client) (b : Bodies) (w : Whole) → b.statics ≡ map (λ v. class_in v.kind) (setting_of form client).statics
     → w ≡ with_bodies form (bodies_from (setting_of form client) 0 1 0 client.items) nothing_yet
-    → b.initial ≡ w.initial → map procedure_seen b.procedures ≡ w.procedures → b.calls ≡ w.calls → AreBodies form client b
-bodies_are form client b w statics is initial procedures calls = record {
+    → b.initial ≡ w.initial → map unset_seen b.procedures ≡ w.procedures → b.calls ≡ w.calls
+    → (faults_of_bodies form client ≡ [] → map (λ p. p.set) b.procedures ≡ filter_map (λ x. sets_by x x.item) (bodies_of form client))
+    → AreBodies form client b
+bodies_are form client b w statics is initial procedures calls sets = record {
   statics = statics;
   initial = initial ∙ ap (λ v. v.initial) is;
   procedures = procedures ∙ ap (λ v. v.procedures) is;
+  sets = sets;
   calls = calls ∙ ap (λ v. v.calls) is;
 }

@@ -1,7 +1,11 @@
+pub mod AllSets
 pub mod AllWritten
+pub mod Coded
+pub mod Exits
 pub mod InOrder
 pub mod Left
 pub mod Marked
+pub mod Passing
 pub mod Started
 pub mod Walked
 pub mod Writing

@@ -6,22 +6,22 @@ use Rattle.client_points.specs.declared.written.Written.{Written}
 use Rattle.client_model.specs.Statements.{Statement, Statements, none, ◌▸◌}
 use Rattle.client_model.specs.Contexts.{Context, after, situated, situated_in}
 use Rattle.client_model.specs.Settings.{Setting}
-use Rattle.client_values.specs.Knowing.{Knows}
+use Rattle.client_bodies.specs.Walking.{Walks}
 use Rattle.client_values.specs.declared.context.Context.{Context as Known}
 
 -- of these statements, which began in the first context, these are not written yet
 pub record Writes (s : Setting) (c : Context) (all : Statements) (old : Written) (known : Known) (now : Written) (rest : Statements) : Type 0 where
   pub here : Context
-  pub knows : Knows here known
+  pub knows : Walks s here known
   pub left : written_with (situated s here rest) now ≡ written_with (situated s c all) old
 
-pub writes_all : (s : Setting) (c : Context) (all : Statements) (old : Written) (known : Known) → Knows c known → Writes s c all old known old all
+pub writes_all : (s : Setting) (c : Context) (all : Statements) (old : Written) (known : Known) → Walks s c known → Writes s c all old known old all
 writes_all s c all old known knows = record { here = c; knows = knows; left = refl }
 
 pub writes_next : (s : Setting) (c : Context) (all : Statements) (old : Written) (known next : Known) (now noted behind : Written) (x : Statement) (rest : Statements)
-    → ((d : Context) → Knows d known → noted ≡ written_with (at s d x ∷ []) now)
-    → ((d : Context) → Knows d known → behind ≡ written_with (situated_in s d x) noted)
-    → ((d : Context) → Knows d known → Knows (after s d x) next)
+    → ((d : Context) → Walks s d known → noted ≡ written_with (at s d x ∷ []) now)
+    → ((d : Context) → Walks s d known → behind ≡ written_with (situated_in s d x) noted)
+    → ((d : Context) → Walks s d known → Walks s (after s d x) next)
     → Writes s c all old known now (x ▸ rest) → Writes s c all old next behind rest
 writes_next s c all old known next now noted behind x rest notes holds goes stands =
     let d = stands.here in

@@ -1,21 +1,31 @@
 //! What stands behind a block, where its names are no longer in scope, and behind both blocks of an `if`.
-ghost use Rattle.std.specs.Prelude.{◌≡◌, ◌&&◌, ◌||◌, ◌++◌, [], ℕ, IfOk, OnOk, drop, filter, if◌then◌else◌, take};
-ghost use Rattle.client_bodies.specs.Walking.{Grows, is_among, outside_of, own_of, put_back};
+ghost use Rattle.std.specs.Prelude.{◌≡◌, ◌&&◌, ◌||◌, ℕ, IfOk, OnOk, drop, filter, length, not, take};
+ghost use Rattle.client_bodies.specs.Walking.{AreWithin, is_among, is_one_of, is_own, outside_of, own_of, put_back};
+ghost use Rattle.client_model.specs.Codes.{variable_code};
+ghost use Rattle.set_names.specs.Names.{is_assigned, is_in};
 ghost use Rattle.client_values.specs.Knowing.{is_marked};
 
-use client_values::{Assigned, Context, Fault, has};
+use client_values::{Assigned, Context, Fault};
+use set_names::NamesSoFar;
 use sqlite_items::Items;
 use std::alloc::{AllocError, Global};
 
-/// What stood before a block: how many names were in scope and how many assigned, whether everything was assigned, whether the
-/// block is reached, and whether a `while` holds it.
+/// What stood before a block: how many names were in scope and how many variables assigned, whether everything was assigned,
+/// whether the block is reached, and whether a `while` holds it.
 #[derive(Clone, Copy, Debug, PartialEq, Eq)]
 pub(crate) struct Outside {
     pub(crate) scope: usize,
-    pub(crate) codes: usize,
+    pub(crate) trail: usize,
     pub(crate) everything: bool,
     pub(crate) reached: bool,
     pub(crate) looped: bool,
+}
+
+/// What a block assigns: these variables; or everything, where it does not go on.
+#[derive(Drop)]
+pub(crate) struct Own {
+    pub(crate) numbers: Items<u32>,
+    pub(crate) everything: bool,
 }
 
 /// What stands before a block that begins here.
@@ -24,31 +34,41 @@ pub(crate) fn outside_of(context: &Context) -> Outside
 {
     Outside {
         scope: context.scope.len(),
-        codes: context.assigned.codes.len(),
+        trail: context.assigned.names.trail().len(),
         everything: context.assigned.everything,
         reached: context.reached,
         looped: context.looped,
     }
 }
 
-/// Takes away the codes behind the first so many.
-fn cut_codes(codes: &mut Items<u32>, kept: usize)
-    ensures { codes.new ≡ take kept codes.old }
-{
-    'each: while codes.len() > kept {
-        codes.pop();
-    }
-}
-
-/// A copy of the codes behind the first so many.
-fn codes_behind(alloc: Global, codes: &[u32], first: usize) -> Result<Items<u32>, AllocError>
-    ensures { IfOk result (λ copy. copy ≡ drop first codes.now) }
+/// A copy of the numbers behind the first so many.
+fn numbers_behind(alloc: Global, numbers: &[u32], first: usize) -> Result<Items<u32>, AllocError>
+    ensures { IfOk result (λ copy. copy ≡ drop first numbers.now) }
 {
     let mut copy = Items::new(alloc);
-    'each: for at in first..codes.len() {
-        copy.push(codes[at])?;
+    'each: for at in first..numbers.len() {
+        copy.push(numbers[at])?;
     }
     Ok(copy)
+}
+
+/// Those of these variables that are assigned at the end of a block; all, where it does not go on.
+pub(crate) fn assigned_of(
+    alloc: Global,
+    assigned: &Assigned,
+    goes_on: bool,
+    numbers: &[u32],
+) -> Result<Items<u32>, AllocError>
+    ensures { IfOk result (λ both. both
+        ≡ filter (λ k. (assigned.now.everything || not goes_on) || is_in assigned.now.names.trail k) numbers.now) }
+{
+    let mut both = Items::new(alloc);
+    'each: for number in numbers {
+        if (assigned.everything || !goes_on) || assigned.names.is_set(*number) {
+            both.push(*number)?;
+        }
+    }
+    Ok(both)
 }
 
 /// Goes behind a block, where this stood before it. The answer is what the block assigns, everything where it does not go on.
@@ -57,95 +77,83 @@ pub(crate) fn leave(
     context: &mut Context,
     outside: Outside,
     goes_on: bool,
-) -> Result<Assigned, AllocError>
+) -> Result<Own, AllocError>
     ensures context { OnOk result (context.new ≡ put_back outside context.old) }
-    ensures assigned { IfOk result (λ own. own ≡ own_of outside context.old goes_on) }
+    ensures own { IfOk result (λ own. own ≡ own_of outside context.old goes_on) }
+    ensures within { AreWithin context.old.assigned.names.variables context.old.assigned.names.trail }
 {
-    let codes = codes_behind(alloc, context.assigned.codes.as_slice(), outside.codes)?;
+    let numbers = numbers_behind(alloc, context.assigned.names.trail(), outside.trail)?;
     let everything = context.assigned.everything || !goes_on;
     context.scope.truncate(outside.scope);
-    cut_codes(&mut context.assigned.codes, outside.codes);
+    context.assigned.names.cut(outside.trail)?;
     context.assigned.everything = outside.everything;
     context.reached = outside.reached;
     context.looped = outside.looped;
-    Ok(Assigned { codes, everything })
+    Ok(Own {
+        numbers,
+        everything,
+    })
 }
 
-/// Adds those of these codes that are assigned.
-fn add_assigned(
-    codes: &mut Items<u32>,
-    others: &[u32],
-    assigned: &Assigned,
-) -> Result<(), AllocError>
-    ensures { OnOk result (codes.new ≡ codes.old ++ filter (is_marked assigned.now) others.now) }
+/// Assigns these variables.
+fn set_all(names: &mut NamesSoFar, numbers: &[u32]) -> Result<(), AllocError>
+    ensures assigned { OnOk result (AreWithin names.old.variables numbers.now
+        → (code : ℕ) → is_assigned names.new code ≡ (is_assigned names.old code || is_one_of numbers.now code)) }
+    ensures grows { OnOk result (take (length names.old.trail) names.new.trail ≡ names.old.trail) }
+    ensures others { OnOk result (names.new ≡ record names.old { trail = names.new.trail }) }
 {
-    'each: for code in others {
-        if has(assigned, *code) {
-            codes.push(*code)?;
-        }
+    'each: for number in numbers {
+        names.set(*number)?;
     }
     Ok(())
 }
 
-/// Adds these codes, where they are wanted.
-fn add_if(wanted: bool, codes: &mut Items<u32>, others: &[u32]) -> Result<(), AllocError>
-    ensures { OnOk result (codes.new ≡ codes.old ++ (if wanted then others.now else [])) }
+/// The same, where they are wanted.
+fn set_if(wanted: bool, names: &mut NamesSoFar, numbers: &[u32]) -> Result<(), AllocError>
+    ensures assigned { OnOk result (AreWithin names.old.variables numbers.now
+        → (code : ℕ) → is_assigned names.new code ≡ (is_assigned names.old code || (wanted && is_one_of numbers.now code))) }
+    ensures grows { OnOk result (take (length names.old.trail) names.new.trail ≡ names.old.trail) }
+    ensures others { OnOk result (names.new ≡ record names.old { trail = names.new.trail }) }
 {
     if wanted {
-        add_all(codes, others)
+        set_all(names, numbers)
     } else {
         Ok(())
     }
 }
 
-fn add_all(codes: &mut Items<u32>, others: &[u32]) -> Result<(), AllocError>
-    ensures { OnOk result (codes.new ≡ codes.old ++ others.now) }
-{
-    'each: for code in others {
-        codes.push(*code)?;
-    }
-    Ok(())
-}
-
-/// What is known behind a block: the first fault so far, whether the block goes on, and what it assigns.
+/// What is known behind a block: the first fault so far, whether the block goes on, what it assigns, and which of the variables
+/// that were asked for are assigned at its end.
 #[derive(Drop)]
 pub(crate) struct Block {
     pub(crate) found: Option<Fault>,
     pub(crate) goes_on: bool,
-    pub(crate) assigned: Assigned,
+    pub(crate) own: Own,
+    pub(crate) both: Items<u32>,
 }
 
-/// Assigns what both blocks of an `if` assign.
-fn join_assigned(
-    assigned: &mut Assigned,
-    first: &Assigned,
-    second: &Assigned,
-) -> Result<(), AllocError>
-    ensures codes { OnOk result (assigned.new.codes
-        ≡ (assigned.old.codes ++ filter (is_marked second.now) first.now.codes) ++ (if first.now.everything then second.now.codes else [])) }
-    ensures everything { OnOk result (assigned.new.everything ≡ (first.now.everything && second.now.everything)) }
-{
-    add_assigned(&mut assigned.codes, first.codes.as_slice(), second)?;
-    add_if(
-        first.everything,
-        &mut assigned.codes,
-        second.codes.as_slice(),
-    )?;
-    assigned.everything = first.everything && second.everything;
-    Ok(())
-}
-
-/// Goes behind an `if` with these blocks.
+/// Goes behind an `if` with these blocks, the second of which was asked for what the first assigns.
 pub(crate) fn join(context: &mut Context, one: &Block, other: &Block) -> Result<(), AllocError>
     ensures context { OnOk result (context.new ≡ record context.old {
       assigned = context.new.assigned;
       reached = context.old.reached && (one.now.goes_on || other.now.goes_on);
     }) }
-    ensures assigned { OnOk result ((code : ℕ) → is_marked context.new.assigned code
-        ≡ ((is_among context.old.assigned code || is_marked one.now.assigned code) && (is_among context.old.assigned code || is_marked other.now.assigned code))) }
-    ensures grows { OnOk result (Grows context.old.assigned context.new.assigned) }
+    ensures assigned { OnOk result (AreWithin context.old.assigned.names.variables one.now.own.numbers
+        → AreWithin context.old.assigned.names.variables other.now.own.numbers
+        → other.now.both ≡ filter (λ k. is_among context.old.assigned (variable_code k) || is_own other.now.own (variable_code k)) one.now.own.numbers
+        → (code : ℕ) → is_marked context.new.assigned code
+        ≡ ((is_among context.old.assigned code || is_own one.now.own code) && (is_among context.old.assigned code || is_own other.now.own code))) }
+    ensures everything { OnOk result (context.new.assigned.everything ≡ (one.now.own.everything && other.now.own.everything)) }
+    ensures names { OnOk result (context.new.assigned.names ≡ record context.old.assigned.names { trail = context.new.assigned.names.trail }) }
+    ensures grows { OnOk result (take (length context.old.assigned.names.trail) context.new.assigned.names.trail ≡ context.old.assigned.names.trail) }
 {
-    join_assigned(&mut context.assigned, &one.assigned, &other.assigned)?;
+    set_all(&mut context.assigned.names, other.both.as_slice())?;
+    set_if(
+        one.own.everything,
+        &mut context.assigned.names,
+        other.own.numbers.as_slice(),
+    )?;
+    context.assigned.everything = one.own.everything && other.own.everything;
     context.reached = context.reached && (one.goes_on || other.goes_on);
     Ok(())
 }

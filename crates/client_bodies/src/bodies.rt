@@ -1,13 +1,15 @@
 //! The first fault of the initialisers and bodies of a client, and what is written of them.
-ghost use Rattle.std.specs.Prelude.{◌≡◌, ◌+◌, ◌∷◌, ◌++◌, Bool, List, IfOk, OnOk, false, filter_map, option_map, true};
-ghost use Rattle.std.specs.List.{flat_map};
-ghost use Rattle.client_bodies.specs.InTextOrder.{Stands, all_in_end, first_in_end, nothing_yet, so_far};
-ghost use Rattle.client_bodies.specs.Walking.{IsBare};
-ghost use Rattle.client_points.specs.Wholes.{AreBodies, with_bodies};
+ghost use Rattle.std.specs.Prelude.{◌≡◌, ◌&&◌, ◌||◌, ◌+◌, ◌∷◌, ◌++◌, [], Bool, List, IfOk, OnOk, false, filter, filter_map, map, not, option_map, true};
+ghost use Rattle.set_names.specs.Names.{is_in, is_left};
+ghost use Rattle.set_names.specs.Sets.{codes_of};
+ghost use Rattle.std.specs.List.{flat_map, range_with_len};
+ghost use Rattle.client_bodies.specs.InTextOrder.{SetsStay, Stands, all_in_end, first_in_end, nothing_yet, so_far};
+ghost use Rattle.client_bodies.specs.Walking.{AreSets};
+ghost use Rattle.client_model.specs.SetNumbers.{AreNumbered};
+ghost use Rattle.client_points.specs.Wholes.{AreBodies, sets_by, unset_seen, with_bodies, without_set};
 ghost use Rattle.client_points.specs.Writing.{written_with};
 ghost use Rattle.client_model.specs.Bodies.{all_in, bodies_from, body_of, end_of};
 ghost use Rattle.client_model.specs.BodyFaults as told;
-ghost use Rattle.client_model.specs.Checked.{procedure_seen, without_set};
 ghost use Rattle.client_model.specs.CheckedForm.{procedure_form};
 ghost use Rattle.client_model.specs.Faults.{first_of};
 ghost use Rattle.client_model.specs.Points.{site_at};
@@ -17,8 +19,7 @@ ghost use Rattle.client_model.specs.Trees.{client_of, procedure_of};
 ghost use Rattle.client_values.specs.ToldFaults.{Finds, fault_told};
 ghost use Rattle.easl_model.specs.CheckedForm.{has_values};
 
-use crate::blocks::{leave, outside_of};
-use crate::starts::{bare_entry, before_first, enter_body, pass_initialiser};
+use crate::starts::{before_first, entry_of, pass_initialiser};
 use crate::statements::{all_go_on, faults_of_assigned};
 use crate::tables::tables_of;
 use crate::walk::faults_of_statements;
@@ -26,17 +27,16 @@ use client_model::{CallSite, Client, Proc, Procedure};
 use client_points::{Bodies, Written, classes_of, procedure_form, statics_form};
 use client_values::{Context, Fault, Kind, Rule, Setting, kind_of, note_if};
 use easl_model::{CheckedSpec, Sort};
+use set_names::{NamesSoFar, SetNames};
 use sqlite_items::Items;
 use std::alloc::{AllocError, Global};
 use std::mem;
 
-/// Before an item of a client: what stands before the next initialiser, what stands at the entry of a procedure without
-/// parameters, how many procedures stand before the item, the first fault so far, what is written of the start and which calls
+/// Before an item of a client: what stands before the next initialiser, how many procedures stand before the item, the first fault so far, what is written of the start and which calls
 /// are made, and the forms of the procedures.
 #[derive(Drop)]
 pub(crate) struct Progress {
     pub(crate) start: Context,
-    pub(crate) entry: Context,
     pub(crate) procedures: u32,
     pub(crate) found: Option<Fault>,
     pub(crate) written: Written,
@@ -80,38 +80,74 @@ fn next(procedures: u32) -> Result<u32, AllocError>
     procedures.checked_add(1).ok_or(AllocError)
 }
 
-/// The first fault of the body of the procedure of this number, behind so many calls, and how many calls stand before its end.
-/// The body is written.
-fn faults_of_procedure(
+/// The names that are set at the points of a body and at its exit, where it goes on at its end.
+fn sets_at_end(alloc: Global, names: NamesSoFar) -> Result<SetNames, AllocError>
+    ensures { IfOk result (λ sets. sets ≡ map (codes_of names.statics) (names.before
+        ++ filter (λ k. is_left names.left k && is_in names.trail k) (range_with_len 0 names.variables) ∷ [])) }
+{
+    let mut names = names;
+    names.leave(alloc)?;
+    names.finish()
+}
+
+/// The same, behind its last statement.
+fn sets_of(alloc: Global, names: NamesSoFar, goes_on: bool) -> Result<SetNames, AllocError>
+    ensures { IfOk result (λ sets. sets ≡ map (codes_of names.statics) (names.before
+        ++ filter (λ k. is_left names.left k && (not goes_on || is_in names.trail k)) (range_with_len 0 names.variables) ∷ [])) }
+{
+    if goes_on {
+        sets_at_end(alloc, names)
+    } else {
+        names.finish()
+    }
+}
+
+/// What is known behind a body: the first fault so far, how many calls stand before its end, and which names are set in it.
+#[derive(Drop)]
+struct Walked {
+    found: Option<Fault>,
+    calls: u32,
+    sets: SetNames,
+}
+
+/// Walks over the body of the procedure of this number, behind so many calls. The body is written.
+fn walk_body(
     alloc: Global,
     setting: &Setting<'_>,
-    entry: &mut Context,
     number: u32,
     procedure: &Proc,
     calls: u32,
     written: &mut Written,
     found: Option<Fault>,
-) -> Result<(Option<Fault>, u32), AllocError>
-    requires { IsBare setting.now entry.old }
-    ensures found { IfOk result (λ r. Finds found r.0 (faults_of_body (body_of setting.now number calls (procedure_of procedure.now)))) }
-    ensures calls { IfOk result (λ r. r.1 ≡ (end_of (body_of setting.now number calls (procedure_of procedure.now))).calls) }
+) -> Result<Walked, AllocError>
+    requires { AreNumbered setting.now }
+    ensures found { IfOk result (λ r. Finds found r.found (faults_of_body (body_of setting.now number calls (procedure_of procedure.now)))) }
+    ensures calls { IfOk result (λ r. r.calls ≡ (end_of (body_of setting.now number calls (procedure_of procedure.now))).calls) }
     ensures written { OnOk result (written.new ≡ written_with (all_in (body_of setting.now number calls (procedure_of procedure.now))) written.old) }
-    ensures bare { OnOk result (IsBare setting.now entry.new) }
+    ensures sets { IfOk result (λ r. AreSets (body_of setting.now number calls (procedure_of procedure.now)) r.sets) }
 {
-    let outside = outside_of(entry);
-    enter_body(alloc, setting, entry, procedure.params.as_slice(), calls)?;
+    let mut context = entry_of(alloc, setting, procedure.params.as_slice(), calls)?;
     let within = inside(setting, number, procedure);
     let found = faults_of_statements(
         alloc,
         &within,
-        entry,
+        &mut context,
         procedure.body.as_slice(),
         written,
         found,
     )?;
-    let calls = entry.calls;
-    leave(alloc, entry, outside, true)?;
-    Ok((no_return(procedure, found), calls))
+    let Context {
+        assigned,
+        calls,
+        ..
+    } = context;
+    let goes_on = all_go_on(true, procedure.body.as_slice());
+    let sets = sets_of(alloc, assigned.names, goes_on)?;
+    Ok(Walked {
+        found: no_return(procedure, found),
+        calls,
+        sets,
+    })
 }
 
 /// What is known behind a procedure: the first fault so far, its form, the calls of the client so far, and how many these are.
@@ -127,30 +163,28 @@ struct Passed {
 fn pass_body(
     alloc: Global,
     setting: &Setting<'_>,
-    entry: &mut Context,
     number: u32,
     procedure: &Proc,
     calls: Items<CallSite>,
     count: u32,
     found: Option<Fault>,
 ) -> Result<Passed, AllocError>
-    requires { IsBare setting.now entry.old }
+    requires { AreNumbered setting.now }
     ensures found { IfOk result (λ p. Finds found p.found (faults_of_body (body_of setting.now number count (procedure_of procedure.now)))) }
     ensures count { IfOk result (λ p. p.count ≡ (end_of (body_of setting.now number count (procedure_of procedure.now))).calls) }
-    ensures form { IfOk result (λ p. procedure_seen p.form
+    ensures form { IfOk result (λ p. unset_seen p.form
         ≡ without_set (procedure_form setting.now.form (body_of setting.now number count (procedure_of procedure.now)) (procedure_of procedure.now))) }
+    ensures sets { IfOk result (λ p. AreSets (body_of setting.now number count (procedure_of procedure.now)) p.form.set) }
     ensures calls { IfOk result (λ p. p.calls ≡ calls ++ filter_map site_at (all_in (body_of setting.now number count (procedure_of procedure.now)))) }
-    ensures bare { OnOk result (IsBare setting.now entry.new) }
 {
     let mut written = Written {
         points: Items::new(alloc),
         variables: classes_of(alloc, setting.spec, procedure.params.as_slice())?,
         calls,
     };
-    let (found, count) = faults_of_procedure(
+    let walked = walk_body(
         alloc,
         setting,
-        entry,
         number,
         procedure,
         count,
@@ -162,12 +196,19 @@ fn pass_body(
         variables,
         calls,
     } = written;
-    let form = procedure_form(alloc, setting.spec, procedure, points, variables)?;
+    let form = procedure_form(
+        alloc,
+        setting.spec,
+        procedure,
+        points,
+        variables,
+        walked.sets,
+    )?;
     Ok(Passed {
-        found,
+        found: walked.found,
         form,
         calls,
-        count,
+        count: walked.calls,
     })
 }
 
@@ -184,6 +225,7 @@ fn pass_static(
         → first_in_end setting.now client.now progress.new order ≡ first_in_end setting.now client.now progress.old (true ∷ order)) }
     ensures all { OnOk result ((order : List Bool)
         → all_in_end setting.now client.now progress.new order ≡ all_in_end setting.now client.now progress.old (true ∷ order)) }
+    ensures sets { OnOk result (SetsStay setting.now client.now progress.old progress.new true) }
 {
     match client.statics.get(progress.start.points as usize) {
         Some(x) => {
@@ -197,7 +239,7 @@ fn pass_static(
             progress
                 .written
                 .note_assigned(alloc, setting, &progress.start, &x.name, &x.value)?;
-            pass_initialiser(setting, &mut progress.start, &x.value)?;
+            pass_initialiser(alloc, setting, &mut progress.start, &x.value)?;
             progress.found = found;
             Ok(())
         }
@@ -218,6 +260,7 @@ fn pass_procedure(
         → first_in_end setting.now client.now progress.new order ≡ first_in_end setting.now client.now progress.old (false ∷ order)) }
     ensures all { OnOk result ((order : List Bool)
         → all_in_end setting.now client.now progress.new order ≡ all_in_end setting.now client.now progress.old (false ∷ order)) }
+    ensures sets { OnOk result (SetsStay setting.now client.now progress.old progress.new false) }
 {
     match client.procedures.get(progress.procedures as usize) {
         Some(procedure) => {
@@ -226,7 +269,6 @@ fn pass_procedure(
             let passed = pass_body(
                 alloc,
                 setting,
-                &mut progress.entry,
                 number,
                 procedure,
                 calls,
@@ -258,6 +300,7 @@ fn pass_item(
         → first_in_end setting.now client.now progress.new order ≡ first_in_end setting.now client.now progress.old (is_static ∷ order)) }
     ensures all { OnOk result ((order : List Bool)
         → all_in_end setting.now client.now progress.new order ≡ all_in_end setting.now client.now progress.old (is_static ∷ order)) }
+    ensures sets { OnOk result (SetsStay setting.now client.now progress.old progress.new is_static) }
 {
     if is_static {
         pass_static(alloc, setting, client, progress)
@@ -268,12 +311,14 @@ fn pass_item(
 
 /// Passes all items.
 fn pass_items(alloc: Global, setting: &Setting<'_>, client: &Client) -> Result<Progress, AllocError>
+    requires { AreNumbered setting.now }
     ensures first { IfOk result (λ p. option_map fault_told p.found ≡ first_of (flat_map faults_of_body (bodies_from setting.now 0 1 0 (client_of client.now).items))) }
     ensures all { IfOk result (λ p. so_far p ≡ with_bodies setting.now.form (bodies_from setting.now 0 1 0 (client_of client.now).items) nothing_yet) }
+    ensures sets { IfOk result (λ p. flat_map faults_of_body (bodies_from setting.now 0 1 0 (client_of client.now).items) ≡ []
+        → map (λ f. f.set) p.forms ≡ filter_map (λ b. sets_by b b.item) (bodies_from setting.now 0 1 0 (client_of client.now).items)) }
 {
     let mut progress = Progress {
         start: before_first(alloc),
-        entry: bare_entry(alloc, setting)?,
         procedures: 0,
         found: None,
         written: Written {

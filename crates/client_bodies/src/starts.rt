@@ -1,6 +1,8 @@
 //! What stands before the first statement of an initialiser and of a body.
-ghost use Rattle.std.specs.Prelude.{◌≡◌, ◌+◌, ◌++◌, ℕ, IfOk, OnOk, length, suc};
-ghost use Rattle.client_bodies.specs.Walking.{Grows, IsBare};
+ghost use Rattle.std.specs.Prelude.{◌≡◌, ◌+◌, [], ℕ, None, IfOk, OnOk, length, suc};
+ghost use Rattle.std.specs.List.{range_with_len};
+ghost use Rattle.client_bodies.specs.Walking.{Walks};
+ghost use Rattle.client_model.specs.SetNumbers.{AreNumbered};
 ghost use Rattle.client_model.specs.declared.tree.Rhs.{Rhs};
 ghost use Rattle.client_model.specs.Bodies as told;
 ghost use Rattle.client_model.specs.Codes as codes;
@@ -8,11 +10,12 @@ ghost use Rattle.client_model.specs.Contexts.{call_count};
 ghost use Rattle.client_model.specs.Settings.{Setting};
 ghost use Rattle.client_values.specs.Knowing.{Knows};
 
-use crate::steps::{call_count, evaluate, mark};
+use crate::steps::{call_count, evaluate};
 use crate::tables::variable_as;
 use client_model::Rhs;
 use client_values::{Assigned, Context, Scope, Setting, Variable, kind_of, variable_code};
 use easl_model::{CheckedSpec, Param};
+use set_names::NamesSoFar;
 use sqlite_items::Items;
 use std::alloc::{AllocError, Global};
 
@@ -23,7 +26,7 @@ pub(crate) fn before_first(alloc: Global) -> Context
     Context {
         scope: Scope::new(alloc),
         assigned: Assigned {
-            codes: Items::new(alloc),
+            names: NamesSoFar::new(alloc, 0),
             everything: false,
         },
         reached: true,
@@ -36,22 +39,21 @@ pub(crate) fn before_first(alloc: Global) -> Context
 
 /// Goes before the next initialiser, behind that with this value.
 pub(crate) fn pass_initialiser(
+    alloc: Global,
     setting: &Setting<'_>,
     context: &mut Context,
     value: &Rhs,
 ) -> Result<(), AllocError>
+    requires { AreNumbered setting.now }
     ensures { OnOk result ((number calls : ℕ) → Knows (told.before_initialiser setting.now number calls) context.old
         → Knows (told.before_initialiser setting.now (suc number) (calls + call_count value.now)) context.new) }
 {
     let number = context.points as usize;
     evaluate(context, call_count(value))?;
-    match setting.statics.at(number) {
-        Some(variable) => {
-            mark(context, variable.code)?;
-            Ok(())
-        }
-        None => Ok(()),
+    if number < setting.statics.len() {
+        context.assigned.names = NamesSoFar::new(alloc, context.points);
     }
+    Ok(())
 }
 
 /// The code of the variable of this number.
@@ -78,57 +80,48 @@ fn variables_of(alloc: Global, spec: &CheckedSpec, params: &[Param]) -> Result<S
     Ok(variables)
 }
 
-/// Adds the codes of these variables.
-fn add_codes(codes: &mut Items<u32>, variables: &[Variable]) -> Result<(), AllocError>
-    ensures { OnOk result (codes.new ≡ codes.old ++ told.codes_of variables.now) }
+/// So many statics are assigned, and so many parameters.
+fn names_at_entry(alloc: Global, statics: u32, params: u32) -> Result<NamesSoFar, AllocError>
+    ensures { IfOk result (λ names. names
+        ≡ record { statics = statics; variables = params; before = []; trail = range_with_len 0 params; left = None }) }
 {
-    'each: for variable in variables {
-        codes.push(variable.code)?;
+    let mut names = NamesSoFar::new(alloc, statics);
+    'each: for number in 0..params {
+        names.declare()?;
+        names.set(number)?;
     }
-    Ok(())
+    Ok(names)
 }
 
-/// At the entry of a procedure without parameters.
-pub(crate) fn bare_entry(alloc: Global, setting: &Setting<'_>) -> Result<Context, AllocError>
-    ensures { IfOk result (λ entry. IsBare setting.now entry) }
+/// At the entry of a procedure with these parameters, behind so many calls.
+pub(crate) fn entry_of(
+    alloc: Global,
+    setting: &Setting<'_>,
+    params: &[Param],
+    calls: u32,
+) -> Result<Context, AllocError>
+    requires { AreNumbered setting.now }
+    ensures entry { IfOk result (λ entry. Walks setting.now (told.at_entry setting.now calls params.now) entry) }
+    ensures statics { IfOk result (λ entry. entry.assigned.names.statics ≡ length setting.now.statics) }
+    ensures before { IfOk result (λ entry. entry.assigned.names.before ≡ []) }
+    ensures left { IfOk result (λ entry. entry.assigned.names.left ≡ None) }
 {
-    let mut codes = Items::new(alloc);
-    add_codes(&mut codes, setting.statics.as_slice())?;
+    let scope = variables_of(alloc, setting.spec, params)?;
+    let variables = count_of(scope.as_slice())?;
+    let statics = count_of(setting.statics.as_slice())?;
+    let names = names_at_entry(alloc, statics, variables)?;
     Ok(Context {
-        scope: Scope::new(alloc),
+        scope,
         assigned: Assigned {
-            codes,
+            names,
             everything: false,
         },
         reached: true,
         looped: false,
-        variables: 0,
+        variables,
         points: 0,
-        calls: 0,
+        calls,
     })
-}
-
-/// Goes from there to the entry of a procedure with these parameters, behind so many calls.
-pub(crate) fn enter_body(
-    alloc: Global,
-    setting: &Setting<'_>,
-    context: &mut Context,
-    params: &[Param],
-    calls: u32,
-) -> Result<(), AllocError>
-    requires { IsBare setting.now context.old }
-    ensures entry { OnOk result (Knows (told.at_entry setting.now calls params.now) context.new) }
-    ensures grows { OnOk result (Grows context.old.assigned context.new.assigned) }
-{
-    let scope = variables_of(alloc, setting.spec, params)?;
-    let variables = count_of(scope.as_slice())?;
-    add_codes(&mut context.assigned.codes, scope.as_slice())?;
-    context.scope = scope;
-    context.reached = true;
-    context.variables = variables;
-    context.points = 0;
-    context.calls = calls;
-    Ok(())
 }
 
 /// How many these are. Numbers that run out are want of memory.

@@ -1,8 +1,8 @@
 //! From what stands before a statement to what stands behind it.
-ghost use Rattle.std.specs.Prelude.{◌≡◌, ◌∷◌, ◌++◌, [], Option, OnOk, option_map};
+ghost use Rattle.std.specs.Prelude.{◌≡◌, Option, OnOk, option_map};
 ghost use Rattle.std.specs.Option.{option_map_or};
 ghost use Rattle.client_values.specs.Knowing.{Knows};
-ghost use Rattle.client_bodies.specs.Walking.{Grows};
+ghost use Rattle.client_bodies.specs.Walking.{IsName, IsSame, Keeps, Notes, Walks};
 ghost use Rattle.client_model.specs.declared.tree.Rhs.{Rhs};
 ghost use Rattle.client_model.specs.Contexts as told;
 ghost use Rattle.client_model.specs.Settings.{variable_named};
@@ -36,10 +36,12 @@ pub(crate) fn call_count_of_test(test: &Test) -> u32
 pub(crate) fn evaluate(context: &mut Context, calls: u32) -> Result<(), AllocError>
     ensures behind { OnOk result ((c : told.Context) → Knows c context.old → (v : Option Rhs) → option_map_or told.call_count v 0 ≡ calls
         → Knows (told.evaluated v c) context.new) }
-    ensures assigned { context.new.assigned ≡ context.old.assigned }
+    ensures notes { OnOk result (Notes context.old context.new) }
+    ensures same { OnOk result (IsSame context.old.assigned context.new.assigned) }
 {
     context.points = context.points.checked_add(1).ok_or(AllocError)?;
     context.calls = context.calls.checked_add(calls).ok_or(AllocError)?;
+    context.assigned.names.pass()?;
     Ok(())
 }
 
@@ -52,7 +54,7 @@ pub(crate) fn declare(
     word: &Word,
 ) -> Result<(), AllocError>
     ensures behind { OnOk result ((c : told.Context) → Knows c context.old → Knows (told.declared setting.now sort.now word.now c) context.new) }
-    ensures assigned { context.new.assigned ≡ context.old.assigned }
+    ensures keeps { OnOk result (Keeps context.old.assigned context.new.assigned) }
 {
     let variable = Variable {
         name: Name(String::from_str(alloc, word.name.0.as_str())?),
@@ -61,16 +63,19 @@ pub(crate) fn declare(
     };
     context.scope.push(variable)?;
     context.variables = context.variables.checked_add(1).ok_or(AllocError)?;
+    context.assigned.names.declare()?;
     Ok(())
 }
 
-/// Assigns the name of this code.
-#[tactic(auto, using(crate::proofs::Marked::marked_more))]
+/// Assigns the name of this code. A static is assigned already.
 pub(crate) fn mark(context: &mut Context, code: u32) -> Result<(), AllocError>
-    ensures behind { OnOk result ((c : told.Context) → Knows c context.old → Knows (record c { assigned = told.with_code code c.assigned }) context.new) }
-    ensures codes { OnOk result (context.new.assigned.codes ≡ context.old.assigned.codes ++ code ∷ []) }
+    ensures behind { OnOk result ((c : told.Context) → Knows c context.old → IsName c code
+        → Knows (record c { assigned = told.with_code code c.assigned }) context.new) }
+    ensures keeps { OnOk result (Keeps context.old.assigned context.new.assigned) }
 {
-    context.assigned.codes.push(code)?;
+    if code % 4 == 1 {
+        context.assigned.names.set(code / 4)?;
+    }
     Ok(())
 }
 
@@ -91,8 +96,8 @@ pub(crate) fn assign(
     context: &mut Context,
     word: &Word,
 ) -> Result<(), AllocError>
-    ensures behind { OnOk result ((c : told.Context) → Knows c context.old → Knows (told.assigned setting.now word.now c) context.new) }
-    ensures grows { OnOk result (Grows context.old.assigned context.new.assigned) }
+    ensures behind { OnOk result ((c : told.Context) → Walks setting.now c context.old → Knows (told.assigned setting.now word.now c) context.new) }
+    ensures keeps { OnOk result (Keeps context.old.assigned context.new.assigned) }
 {
     match code_of(setting, context, &word.name) {
         Some(code) => {

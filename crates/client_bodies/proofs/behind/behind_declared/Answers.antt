@@ -1,7 +1,11 @@
 use Rattle.std.proofs.Common.{refl}
 use Rattle.std.specs.Prelude.{None}
+use Rattle.client_bodies.proofs.Passing.{notes_then}
 use Rattle.client_model.specs.Contexts.{evaluated}
 use Rattle.client_bodies.proofs.behind.behind_declared.Goals as goal
 
 pub returns-clause-behind : goal.returns-clause-behind
 returns-clause-behind c d knows = c.in_ok-declare.ensures.behind (evaluated None d) (c.in_ok-evaluate.ensures.behind d knows None refl)
+
+pub returns-clause-notes : goal.returns-clause-notes
+returns-clause-notes c = notes_then c.args.context.now c.evaluate.new.context c.declare.new.context c.in_ok-evaluate.ensures.notes c.in_ok-declare.ensures.keeps

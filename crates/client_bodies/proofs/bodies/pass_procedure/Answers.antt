@@ -1,6 +1,7 @@
-use Rattle.std.proofs.Common.{ap, drop, refl, suc, ◌++◌, ◌∙◌}
+use Rattle.std.proofs.Common.{ap, drop, map, refl, suc, ◌++◌, ◌∙◌}
 use Rattle.std.specs.Prelude.{filter_map}
 use Rattle.client_bodies.proofs.AllWritten.{none_written, procedure_own, procedure_written}
+use Rattle.client_bodies.proofs.AllSets.{procedure_sets, same_sets}
 use Rattle.client_bodies.proofs.InOrder.{no_procedure, none_passed, procedure_passed}
 use Rattle.client_bodies.specs.InTextOrder.{so_far}
 use Rattle.client_model.specs.Bodies.{all_in, body_of}
@@ -39,3 +40,18 @@ returns-in-None-clause-all c order =
     let p = c.args.progress.now in
     none_written c.args.setting.now (so_far p) p.start.points (suc p.procedures) p.start.calls _ _
     (no_procedure order (drop p.start.points c.args.client.now.statics) c.args.client.now.procedures p.procedures p.procedures refl c.in-None.ensures.value)
+
+pub returns-in_ok-push-in-Some-clause-sets : goal.returns-in_ok-push-in-Some-clause-sets
+returns-in_ok-push-in-Some-clause-sets c order none =
+    let p = c.args.progress.now in
+    let passed = c.in_ok-passed-in-Some.passed in
+    procedure_sets c.args.setting.now order (drop p.start.points c.args.client.now.statics) c.args.client.now.procedures p.start.points p.procedures
+    c.in_ok-number-in-Some.number p.start.calls passed.count c.in-Some.procedure.now p.forms c.push.new.self passed.form
+    c.in-Some.ensures.value c.in_ok-number-in-Some.ensures c.in_ok-passed-in-Some.ensures.count c.in_ok-push-in-Some.ensures.ok
+    c.in_ok-passed-in-Some.ensures.sets none
+
+pub returns-in-None-clause-sets : goal.returns-in-None-clause-sets
+returns-in-None-clause-sets c order none =
+    let p = c.args.progress.now in
+    same_sets c.args.setting.now (map (λ f. f.set) p.forms) p.start.points (suc p.procedures) p.start.calls _ _
+    (no_procedure order (drop p.start.points c.args.client.now.statics) c.args.client.now.procedures p.procedures p.procedures refl c.in-None.ensures.value) none

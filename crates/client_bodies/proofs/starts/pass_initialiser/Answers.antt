@@ -1,22 +1,20 @@
-use Rattle.std.proofs.Common.{ap, sym, ◌+◌, ◌∙◌}
-use Rattle.std.specs.Prelude.{Some, slice_get}
-use Rattle.client_bodies.proofs.Started.{marked, unmarked}
+use Rattle.std.proofs.Common.{arith, ap, length, sym, ◌∙◌}
+use Rattle.std.specs.Prelude.{Some}
+use Rattle.client_bodies.proofs.Started.{fresh, marked, unmarked}
 use Rattle.client_model.specs.Bodies.{before_initialiser}
-use Rattle.client_model.specs.Contexts.{call_count, evaluated}
 use Rattle.client_bodies.proofs.starts.pass_initialiser.Goals as goal
 
-pub returns-in_ok-mark-in-Some : goal.returns-in_ok-mark-in-Some
-returns-in_ok-mark-in-Some c number calls knows =
+pub returns-then-number-len : goal.returns-then-number-len
+returns-then-number-len c number calls knows =
     let s = c.args.setting.now in
-    let e = evaluated (Some c.args.value.now) (before_initialiser s number calls) in
-    marked s number calls (calls + call_count c.args.value.now) c.in-Some.variable.now c.variable.inside.code c.mark.new.context
-    (ap (slice_get s.statics) knows.points ∙ sym (c.in-Some.ensures ∙ ap (λ t. slice_get t.statics c.args.context.now.points) c.setting.view_is))
-    (ap (λ v. v.code) c.variable.view_is)
-    (c.in_ok-mark-in-Some.ensures.behind e (c.in_ok-evaluate.ensures.behind (before_initialiser s number calls) knows (Some c.args.value.now) (sym c.call_count.ensures)))
+    let long = ap (λ t. length t.statics) c.setting.view_is in
+    let behind = c.in_ok-evaluate.ensures.behind (before_initialiser s number calls) knows (Some c.args.value.now) (sym c.call_count.ensures) in
+    marked s number calls c.args.value.now c.evaluate.new.context c.new.result c.requires (omega (arith, c.if-number-len.true, c.len.ensures, long, knows.points))
+    (c.new.ensures ∙ ap (λ k. fresh k 0) (sym behind.points)) behind (c.in_ok-evaluate.ensures.same.everything ∙ sym knows.everything)
 
-pub returns-in-None : goal.returns-in-None
-returns-in-None c number calls knows =
+pub returns-else-number-len : goal.returns-else-number-len
+returns-else-number-len c number calls knows =
     let s = c.args.setting.now in
-    unmarked s number calls (calls + call_count c.args.value.now) c.evaluate.new.context
-    (ap (slice_get s.statics) knows.points ∙ sym (c.in-None.ensures ∙ ap (λ t. slice_get t.statics c.args.context.now.points) c.setting.view_is))
-    (c.in_ok-evaluate.ensures.behind (before_initialiser s number calls) knows (Some c.args.value.now) (sym c.call_count.ensures))
+    let long = ap (λ t. length t.statics) c.setting.view_is in
+    let behind = c.in_ok-evaluate.ensures.behind (before_initialiser s number calls) knows (Some c.args.value.now) (sym c.call_count.ensures) in
+    unmarked s number calls c.args.value.now c.evaluate.new.context (omega (arith, c.if-number-len.false, c.len.ensures, long, knows.points)) behind
