@@ -8,7 +8,7 @@ use Rattle.std.proofs.lemmas.List.FromFn.{length-range_with_len}
 use Rattle.client_model.proofs.Numbering.{points_numbered}
 use Rattle.client_model.proofs.TokenCounts.{few_in_client, few_tokens, size_of}
 use Rattle.client_model.specs.Bodies.{Body, all_in, bodies_from, bodies_of, body_of, end_of, initialiser, whole_of}
-use Rattle.client_model.specs.Checked.{IsInRange, procedure_seen, seen, without_set, without_sets}
+use Rattle.client_model.specs.Checked.{IsInRange, procedure_seen, seen}
 use Rattle.client_model.specs.CheckedForm.{ClientForm, ProcedureForm, call_of_main, form_by, form_of, in_start, start_form}
 use Rattle.client_model.specs.Contexts.{Situated}
 use Rattle.client_model.specs.Nodes.{count}
@@ -50,7 +50,7 @@ Few most x = length x.points ≤ most
 
 module _ (s : Setting) where
   few_forms : (form : Form) (static procedure call : ℕ) (items : List Item)
-      → length (map without_set (filter_map (λ b. form_by form b b.item) (bodies_from s static procedure call items))) ≤ size_of items
+      → length (filter_map (λ b. form_by form b b.item) (bodies_from s static procedure call items)) ≤ size_of items
   few_forms form static procedure call [] = omega arith
   few_forms form static procedure call (Initialiser x ∷ rest) =
       omega (arith, few_forms form (suc static) procedure (end_of (initialiser s static call x)).calls rest)
@@ -73,7 +73,7 @@ module _ (s : Setting) where
       omega (arith, length-append (all_in b) others, all_in_counted b, few_in_whole static (suc procedure) (end_of b).calls rest)
 
   each_has_few : (form : Form) (most static procedure call : ℕ) (items : List Item) → size_of items ≤ most
-      → AllByRecursion (Few most) (map without_set (filter_map (λ b. form_by form b b.item) (bodies_from s static procedure call items)))
+      → AllByRecursion (Few most) (filter_map (λ b. form_by form b b.item) (bodies_from s static procedure call items))
   each_has_few form most static procedure call [] few = tt
   each_has_few form most static procedure call (Initialiser x ∷ rest) few =
       each_has_few form most (suc static) procedure (end_of (initialiser s static call x)).calls rest (omega arith)
@@ -93,11 +93,11 @@ more : (most : ℕ) (xs : List ProcedureForm) → AllByRecursion (Few most) xs �
 more most [] all = tt
 more most (x ∷ xs) all = let here = all.0 in (omega arith, more most xs all.1)
 
-of_form : (form : Form) (client : Client) (c : program.ClientForm) → size_of client.items ≤ 1048576 → seen c ≡ without_sets (form_of form client) → IsInRange c
+of_form : (form : Form) (client : Client) (c : program.ClientForm) → size_of client.items ≤ 1048576 → seen c ≡ form_of form client → IsInRange c
 of_form form client c few is =
     let s : Setting = setting_of form client in
     let statics : length c.statics ≡ length (map (λ v. class_in v.kind) s.statics) = ap (λ (x : ClientForm). length x.statics) is in
-    let forms : List ProcedureForm = map without_set (filter_map (λ b. form_by form b b.item) (bodies_of form client)) in
+    let forms : List ProcedureForm = filter_map (λ b. form_by form b b.item) (bodies_of form client) in
     let procedures : length (map procedure_seen c.procedures) ≡ suc (length forms) =
     ap (λ (x : ClientForm). length x.procedures) is in
     let calls : length c.calls ≡ length (filter_map site_at (whole_of form client)) = ap (λ (x : ClientForm). length x.calls) is in
@@ -112,7 +112,7 @@ of_form form client c few is =
     }
 
 pub in_range : (text : List ℕ) (form : Form) (client : Written) (c : program.ClientForm) → length text ≤ 1048576 → Spells text client
-    → seen c ≡ without_sets (form_of form (client_of client)) → IsInRange c
+    → seen c ≡ form_of form (client_of client) → IsInRange c
 in_range text form client c few spells is =
     of_form form (client_of client) c
     (omega (arith, few_tokens text spells.tokens spells.cut, few_in_client text spells.tokens.end spells.tokens.list client spells.spelled)) is

@@ -1,7 +1,7 @@
 -- What the check of a client answers.
 use Rattle.std.specs.Prelude.{◌≡◌, Option, Some, None}
 use Rattle.client_model.specs.Program as told
-use Rattle.client_model.specs.Checked.{seen, without_sets}
+use Rattle.client_model.specs.Checked.{seen}
 use Rattle.client_model.specs.CheckedForm.{form_of}
 use Rattle.client_model.specs.Faults.{Fault, Rule, fault}
 use Rattle.client_model.specs.Faults as rule
@@ -12,10 +12,10 @@ use Rattle.client_types.specs.declared.client_fault.ClientFault.TheVariants as a
 use Rattle.easl_model.specs.Form.{Form}
 use Rattle.easl_model.specs.declared.place.Place.{Place}
 
--- the checked form of a client that breaks no rule of this specification, but for the names that are set
+-- the checked form of a client that breaks no rule of this specification
 pub record IsCheckedAs (form : Form) (client : Client) (c : told.ClientForm) : Type 0 where
   pub well_formed : first_fault form client ≡ None
-  pub is : seen c ≡ without_sets (form_of form client)
+  pub is : seen c ≡ form_of form client
 
 -- the answer that tells a fault
 abbrev pub told_as : Rule → Place → ClientFault
