@@ -3,7 +3,8 @@ use Rattle.std.proofs.Common.{◌≡◌, ℕ, Bool, true, false, List, [], ◌�
 use Rattle.std.specs.Prelude.{Option, Some, None, option_and_then, slice_get}
 use Rattle.std.specs.Option.{option_map_or}
 use Rattle.std.proofs.lemmas.Option.{slice_get_past}
-use Rattle.client_run.specs.Graph.{Agree, Agrees, AreAgreed, GoesTo, IsAgreed, Tests, exit_at, exit_of, is_test, next_in, ways_at, whole}
+use Rattle.client_run.specs.Graph.{Agree, Agrees, AreAgreed, GoesTo, IsAgreed, Tests, is_test, whole}
+use Rattle.flow_graph.specs.Points.{exit_at, exit_of, next_in, ways_at}
 use Rattle.client_run.specs.Graph as graph
 use Rattle.client_run.specs.Laws.{PointsAreTrees}
 use Rattle.client_run.specs.Places.{Comes, Ended, Goes, Place, Waiting, beginning, branching, ended, entering, goes, going, onward, place, turn_at, turn_by, turn_of, waiting}
@@ -13,7 +14,11 @@ use Rattle.client_model.specs.declared.form.Point.TheVariants as point
 use Rattle.client_model.specs.CheckedForm.{ClientForm, ProcedureForm}
 use Rattle.client_model.specs.Ways.{Ways, first_point, in_loop, point_of}
 use Rattle.client_steps.proofs.Exist.{runs_exist}
-use Rattle.client_steps.specs.Runs.{Again, Around, Back, Begun, Behind, Branches, Broken, Called, Enters, IsRun, Leaves, Leaving, Loops, Moment, On, Out, Outcome, Over, Passes, Result, Runs, RunsAll, Skips, Steps, Stopped, Stops, Tested, Turns, around, begun, behind_call, branches, breaks, called_from, calls, continues, enters, goes_on, inside, leaves, leaving, loops, no_more, on_false, on_true, out, outcome_of, passing, past, plain, returns, row, start, step, tested, turn_of as turned, unpaid, untaken, untried}
+use Rattle.client_steps.specs.Runs.{Again, Around, Back, Begun, Behind, Branches, Broken, Called, Enters, IsRun, Leaves, Leaving, Loops, Moment, On}
+use Rattle.client_steps.specs.Runs.{Out, Outcome, Over, Passes, Result, Runs, RunsAll, Skips, Steps, Stopped, Stops, Tested, Turns, around, begun}
+use Rattle.client_steps.specs.Runs.{behind_call, branches, breaks, called_from, calls, continues, enters, goes_on, inside, leaves, leaving, loops}
+use Rattle.client_steps.specs.Runs.{no_more, on_false, on_true, out, outcome_of, passing, past, plain, returns, row, start, step, tested}
+use Rattle.client_steps.specs.Runs.{turn_of as turned, unpaid, untaken, untried}
 use Rattle.client_steps.specs.Runs as runs
 use Rattle.client_steps.specs.States.{Call, State, body_at, call_at, call_in, entered, point_at, procedure_at, returned}
 use Rattle.easl_model.specs.Form.{Form}

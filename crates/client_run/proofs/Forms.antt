@@ -4,7 +4,8 @@ use Rattle.std.specs.Prelude.{Option, Some, None, filter_map, flat_map, if◌the
 use Rattle.std.proofs.lemmas.List.{length-append, length-map, map-append}
 use Rattle.std.proofs.lemmas.List.FromFn.{length-range_with_len}
 use Rattle.client_run.proofs.Lists.{Each, Sits, each_both, each_made, each_made_of, each_more, each_none, sits_back, sits_front, sits_head, sits_tail, sits_whole}
-use Rattle.client_run.specs.Graph.{Agree, Agrees, AreAgreed, GoesTo, IsAgreed, Leaves, Tests, exit_of, is_test, next_in, whole}
+use Rattle.client_run.specs.Graph.{Agree, Agrees, AreAgreed, GoesTo, IsAgreed, Leaves, Tests, is_test, whole}
+use Rattle.flow_graph.specs.Points.{exit_of, next_in}
 use Rattle.client_run.specs.Laws.{FormsAgree}
 use Rattle.client_model.specs.Nodes.{count, count_in, node_at, shape_from}
 use Rattle.client_model.specs.Statements.{Statement, Statements, Assign, Break, Continue, Declare, Do, If, Return, While, none, ◌▸◌}

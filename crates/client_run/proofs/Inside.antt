@@ -16,7 +16,10 @@ use Rattle.client_model.specs.Faults.{OutsideLoop, broken_if}
 use Rattle.client_model.specs.Rules.{faults_of_body, faults_of_end}
 use Rattle.client_model.specs.Settings.{Setting, setting_of}
 use Rattle.client_model.specs.Trees.{Client, Initialiser, Item, Procedure}
-use Rattle.client_steps.specs.Runs.{Again, Around, Back, Begun, Behind, Branches, Broken, Leaves, Loops, Moment, On, Out, Passes, Result, Runs, RunsAll, Steps, Stopped, Stops, Tested, Turn, Turns, around, begun, behind_call, branches, breaks, calls, continues, goes_on, inside, leaves, leaving, loops, no_more, on_false, on_true, out, passing, past, plain, returns, row, step, turn_of, untaken, untried}
+use Rattle.client_steps.specs.Runs.{Again, Around, Back, Begun, Behind, Branches, Broken, Leaves, Loops, Moment, On, Out, Passes, Result, Runs, RunsAll}
+use Rattle.client_steps.specs.Runs.{Steps, Stopped, Stops, Tested, Turn, Turns, around, begun, behind_call, branches, breaks, calls, continues, goes_on}
+use Rattle.client_steps.specs.Runs.{inside, leaves, leaving, loops, no_more, on_false, on_true, out, passing, past, plain, returns, row, step, turn_of}
+use Rattle.client_steps.specs.Runs.{untaken, untried}
 use Rattle.client_steps.specs.States.{Call, State, body_at, procedure_at}
 use Rattle.easl_model.proofs.None.{none_of_both}
 use Rattle.easl_model.specs.Form.{Form}

@@ -10,7 +10,11 @@ use Rattle.client_model.specs.declared.form.Point.TheVariants as point
 use Rattle.client_model.specs.CheckedForm.{ClientForm}
 use Rattle.client_model.specs.Codes.{Name, Result as Given, Slot, Static, Variable, name_of}
 use Rattle.client_steps.specs.Deeds.{Broke, Deed, Did, answered, done, done_at, made}
-use Rattle.client_steps.specs.Runs.{Again, Around, Back, Begun, Behind, Branches, Broken, Called, Cut, Enters, Leaves, Loops, Moment, On, Out, Over, Passes, Result, Runs, RunsAll, Skips, Steps, Stopped, Stops, Tested, Turn, Turns, around, begun, behind_call, behind_unit, branches, breaks, called_from, calls, charged, choosing, chosen, continues, enters, goes_on, inside, leaves, leaving, loops, no_more, on_false, on_true, out, passing, past, plain, returns, row, step, tested, turn_of, unit_of, unpaid, untaken, untried}
+use Rattle.client_steps.specs.Runs.{Again, Around, Back, Begun, Behind, Branches, Broken, Called, Cut, Enters, Leaves, Loops, Moment, On, Out, Over}
+use Rattle.client_steps.specs.Runs.{Passes, Result, Runs, RunsAll, Skips, Steps, Stopped, Stops, Tested, Turn, Turns, around, begun, behind_call}
+use Rattle.client_steps.specs.Runs.{behind_unit, branches, breaks, called_from, calls, charged, choosing, chosen, continues, enters, goes_on, inside}
+use Rattle.client_steps.specs.Runs.{leaves, leaving, loops, no_more, on_false, on_true, out, passing, past, plain, returns, row, step, tested, turn_of}
+use Rattle.client_steps.specs.Runs.{unit_of, unpaid, untaken, untried}
 use Rattle.client_steps.specs.States.{Call, State, body_at, entered, point_at, returned, set_named, with_object}
 use Rattle.easl_heap.specs.Body.{body}
 use Rattle.easl_model.specs.Form.{Form}

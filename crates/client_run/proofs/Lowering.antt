@@ -3,7 +3,8 @@ use Rattle.std.proofs.Common.{◌≡◌, ℕ, zero, suc, ◌+◌, ◌*◌, ◌<�
 use Rattle.std.specs.Prelude.{Option, Some, None, option_and_then, slice_get}
 use Rattle.std.specs.Option.{option_map_or}
 use Rattle.std.proofs.lemmas.Option.{slice_get_within}
-use Rattle.client_run.specs.Graph.{AreAgreed, IsAgreed, exit_at, exit_of, is_test, next_in, ways_at}
+use Rattle.client_run.specs.Graph.{AreAgreed, IsAgreed, is_test}
+use Rattle.flow_graph.specs.Points.{exit_at, exit_of, next_in, ways_at}
 use Rattle.client_run.specs.Places.{Ended, Goes, Place, Turn, Waiting, branching, entering, going, left, onward, turn_at, turn_by, turn_of, waiting}
 use Rattle.client_run.specs.Turns.{height, measure, weight}
 use Rattle.client_model.specs.declared.form.Point.{Point}

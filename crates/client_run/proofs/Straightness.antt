@@ -15,11 +15,12 @@ use Rattle.client_run.specs.declared.runner.Outcome as made
 use Rattle.client_run.specs.declared.runner.Outcome.TheVariants as ending
 use Rattle.client_run.specs.declared.runner.RunFault.{RunFault}
 use Rattle.client_run.specs.declared.runner.RunFault.TheVariants as fault
-use Rattle.client_run.specs.Graph.{Agree, Agrees, AreAgreed, IsAgreed, exit_of, is_test, next_in, whole}
+use Rattle.client_run.specs.Graph.{Agree, Agrees, AreAgreed, IsAgreed, is_test, whole}
+use Rattle.flow_graph.specs.Points.{exit_of, next_in}
 use Rattle.client_run.specs.Straight.{Finds, calls_or_tests, failure_of, first_points, is_straight}
 use Rattle.client_model.specs.Program as told
 use Rattle.client_model.specs.Bodies.{bodies_from}
-use Rattle.client_model.specs.Checked.{IsFitting, IsInRange, procedure_seen, seen, without_sets}
+use Rattle.client_model.specs.Checked.{IsFitting, IsInRange, procedure_seen, seen}
 use Rattle.client_model.specs.CheckedForm.{ClientForm, ProcedureForm, form_of, in_start, steps_from}
 use Rattle.client_model.specs.Nodes.{Tree, Trees, Step, If, While, Break, Continue, Return, end, ◌▹◌}
 use Rattle.client_model.specs.Settings.{Setting, class_in, setting_of, statics_from}
@@ -232,11 +233,9 @@ module _ (form : Form) (client : ClientForm) (so : (choices : List Bool) (budget
 
 -- of a client that fits a specification
 fitting_single : (form : Form) (c : told.ClientForm) → IsFitting form c → length (seen c).statics ≡ 0 → body_at (seen c) 0 ≡ Step 0 ▹ end
-fitting_single form c fitting none =
-    let whole : without_sets fitting.whole ≡ without_sets (form_of form fitting.fits.client) = ap without_sets fitting.fits.is in
-    let is : seen c ≡ without_sets (form_of form fitting.fits.client) = fitting.is ∙ whole in
-    let statics : length (form_of form fitting.fits.client).statics ≡ 0 = sym (ap (λ d. length d.statics) is) ∙ none in
-    ap (λ d. body_at d 0) is ∙ start_single form fitting.fits.client statics
+fitting_single form c fits none =
+    let statics : length (form_of form fits.client).statics ≡ 0 = sym (ap (λ d. length d.statics) fits.is) ∙ none in
+    ap (λ d. body_at d 0) fits.is ∙ start_single form fits.client statics
 
 points_few : (c : told.ClientForm) → IsInRange c → (p : ℕ) (x : ProcedureForm) → procedure_at (seen c) p ≡ Some x → length x.points ≤ 1048577
 points_few c range p x is =

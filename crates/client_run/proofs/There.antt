@@ -6,7 +6,8 @@ use Rattle.std.specs.Option.{option_map_or}
 use Rattle.std.proofs.lemmas.Option.{slice_get_within}
 use Rattle.client_run.proofs.ByTrees.{points_are_trees}
 use Rattle.client_run.specs.Answers.{Answers, HasCall, outcome_told}
-use Rattle.client_run.specs.Graph.{AreAgreed, is_test, ways_at}
+use Rattle.client_run.specs.Graph.{AreAgreed, is_test}
+use Rattle.flow_graph.specs.Points.{ways_at}
 use Rattle.client_run.specs.Places.{Comes, Ended, Goes, Place, Turn, Waiting, beginning, branching, ended, entering, goes, left, onward, turn_at, turn_by, waiting}
 use Rattle.client_run.specs.declared.runner.Outcome as made
 use Rattle.client_run.specs.declared.runner.Outcome.TheVariants as ending

@@ -9,7 +9,10 @@ use Rattle.client_model.specs.declared.form.Point.{Point}
 use Rattle.client_model.specs.declared.form.Point.TheVariants as point
 use Rattle.client_model.specs.CheckedForm.{ClientForm}
 use Rattle.client_steps.specs.Deeds.{Broke, Deed, Did, answered, done, done_at, made}
-use Rattle.client_steps.specs.Runs.{Again, Back, Begun, Behind, Broken, Called, Cut, Ends, Fails, Leaves, Moment, On, Outcome, Passes, Result, Runs, RunsAll, Short, Steps, Stopped, Stops, begun, behind_call, behind_unit, branches, breaks, called_from, calls, charged, continues, enters, goes_on, leaves, leaving, loops, no_more, passing, plain, returns, row, step, unit_of, unpaid}
+use Rattle.client_steps.specs.Runs.{Again, Back, Begun, Behind, Broken, Called, Cut, Ends, Fails, Leaves, Moment, On, Outcome, Passes, Result, Runs}
+use Rattle.client_steps.specs.Runs.{RunsAll, Short, Steps, Stopped, Stops, begun, behind_call, behind_unit, branches, breaks, called_from, calls}
+use Rattle.client_steps.specs.Runs.{charged, continues, enters, goes_on, leaves, leaving, loops, no_more, passing, plain, returns, row, step, unit_of}
+use Rattle.client_steps.specs.Runs.{unpaid}
 use Rattle.client_steps.specs.States.{Call, State, body_at, call_at, entered, point_at}
 use Rattle.easl_heap.proofs.Counting.{called_most}
 use Rattle.easl_heap.specs.Body.{called, outcome}

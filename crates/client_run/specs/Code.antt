@@ -1,17 +1,7 @@
 -- What the code keeps, in the words of runs.
-use Rattle.std.specs.Prelude.{ℕ, ◌≤◌, List, [], ◌∷◌, drop, map, take}
+use Rattle.std.specs.Prelude.{ℕ, ◌≤◌, List, [], ◌∷◌, drop, take}
 use Rattle.client_run.specs.Places.{Waiting}
 use Rattle.client_run.specs.declared.frames.Caller.{Caller}
-use Rattle.client_run.specs.declared.graph.Ways as made
-use Rattle.client_model.specs.Nodes.{Trees, tree_of, trees}
-use Rattle.client_model.specs.declared.form.Node.{Node}
-use Rattle.client_model.specs.Ways.{Ways}
-
-abbrev pub row : List Node → Trees
-row nodes = trees (map tree_of nodes)
-
-abbrev pub ways_told : made.Ways → Ways
-ways_told w = record { on = w.on; broken = w.broken; again = w.again; exit = w.exit }
 
 -- a caller, whose frame ends this list
 abbrev pub waiting_of : Caller → List ℕ → Waiting

@@ -1,27 +1,12 @@
--- Where the points of a client's procedures go on, and how that agrees with their statements (own).
-use Rattle.std.specs.Prelude.{◌≡◌, ℕ, suc, ◌<◌, Bool, true, false, List, Option, Some, None, length, option_and_then, slice_get}
-use Rattle.std.specs.Option.{option_map_or}
+-- What it means that points go on as a client's statements do (own).
+use Rattle.std.specs.Prelude.{◌≡◌, ℕ, suc, ◌<◌, Bool, true, false, Option, Some, None, length, option_and_then, slice_get}
 use Rattle.client_model.specs.Nodes.{Tree, Trees, Step, If, While, Break, Continue, Return, end, ◌▹◌}
 use Rattle.client_model.specs.declared.form.Point.{Point}
 use Rattle.client_model.specs.declared.form.Point.TheVariants as point
 use Rattle.client_model.specs.CheckedForm.{ClientForm, ProcedureForm}
-use Rattle.client_model.specs.Ways.{Ways, first_point, in_loop, next_of}
+use Rattle.client_model.specs.Ways.{Ways, first_point, in_loop}
 use Rattle.client_steps.specs.States.{Call, call_in, procedure_at}
-
--- the number behind that of a procedure's last point
-abbrev pub exit_of : ProcedureForm → ℕ
-exit_of x = length x.points
-
--- where each of its points goes on, on T and on F
-abbrev pub next_in : ProcedureForm → List (ℕ × ℕ)
-next_in x = next_of (exit_of x) x.shape
-
-abbrev pub exit_at : ClientForm → ℕ → ℕ
-exit_at client p = option_map_or exit_of (procedure_at client p) 0
-
--- where this point of the procedure goes on; its exit goes nowhere
-abbrev pub ways_at : ClientForm → ℕ → ℕ → Option (ℕ × ℕ)
-ways_at client p number = option_and_then (λ x. slice_get (next_in x) number) (procedure_at client p)
+use Rattle.flow_graph.specs.Points.{exit_of, next_in, ways_at}
 
 -- the outcome of a test is done there
 abbrev pub is_test : Option Point → Bool

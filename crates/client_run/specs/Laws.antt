@@ -2,7 +2,6 @@
 use Rattle.std.specs.Prelude.{ℕ, Bool, List}
 use Rattle.client_run.specs.Graph.{AreAgreed}
 use Rattle.client_run.specs.Places.{Comes, beginning}
-use Rattle.client_model.specs.Checked.{without_sets}
 use Rattle.client_model.specs.CheckedForm.{ClientForm}
 use Rattle.client_model.specs.Fits.{Fits}
 use Rattle.client_steps.specs.Runs.{IsRun, Outcome}
@@ -21,12 +20,3 @@ PointsAreTrees = (form : Form) (client : ClientForm) (choices : List Bool) (budg
 -- in the checked form of a client that is well-formed, the points go on as the statements do
 abbrev pub FormsAgree : Type 0
 FormsAgree = (form : Form) (client : ClientForm) → Fits form client → AreAgreed client
-
--- the runs of a checked form are those of the form without the names that are set
-pub record AreSameRuns (form : Form) (client : ClientForm) (choices : List Bool) (budget : ℕ) (o : Outcome) : Type 0 where
-  pub with_sets : IsRun form (without_sets client) choices budget o → IsRun form client choices budget o
-  pub without : IsRun form client choices budget o → IsRun form (without_sets client) choices budget o
-
-abbrev pub SetsAreNotRead : Type 0
-SetsAreNotRead = (form : Form) (client : ClientForm) (choices : List Bool) (budget : ℕ) (o : Outcome) → Fits form client →
-    AreSameRuns form client choices budget o

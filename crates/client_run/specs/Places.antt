@@ -3,7 +3,8 @@ use Rattle.std.specs.Prelude.{◌≡◌, ℕ, Bool, true, false, List, [], ◌�
 use Rattle.client_model.specs.CheckedForm.{ClientForm}
 use Rattle.client_steps.specs.Runs.{Begun, Ends, Enters, Moment, On, Outcome, Over, Skips, Stops, Tested, begun, called_from, choosing, start}
 use Rattle.client_steps.specs.States.{Call, State, call_at, entered, point_at, with_object}
-use Rattle.client_run.specs.Graph.{is_test, ways_at}
+use Rattle.client_run.specs.Graph.{is_test}
+use Rattle.flow_graph.specs.Points.{ways_at}
 use Rattle.easl_model.specs.Form.{Form}
 
 -- a procedure that has called another: the point behind the call, the name that takes the result, and its frame

@@ -1,17 +1,12 @@
 //! Laws on the definitions, each the contract of a function that does nothing.
 ghost use Rattle.client_run.specs.Kept.{BodiesStayInside, FramesKeepLengths};
-ghost use Rattle.client_run.specs.Laws.{FormsAgree, PointsAreTrees, SetsAreNotRead};
+ghost use Rattle.client_run.specs.Laws.{FormsAgree, PointsAreTrees};
 
 /// A run from point to point comes to what the run by statement trees comes to, where points go on as statements do; and in the
 /// checked form of a client they do.
 pub fn points_are_trees()
     ensures trees { PointsAreTrees }
     ensures agree { FormsAgree }
-{}
-
-/// No run reads which names are set, so a client that is run without them is run as its checked form.
-pub fn sets_are_not_read()
-    ensures { SetsAreNotRead }
 {}
 
 /// The statements of a procedure keep how many statics and variables there are.

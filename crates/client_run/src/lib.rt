@@ -2,13 +2,12 @@
 #![tactic(auto)]
 
 mod frames;
-mod graph;
 mod laws;
 mod program;
 mod runner;
 mod state;
 mod straight;
 
-pub use laws::{bodies_stay_inside, frames_keep_lengths, points_are_trees, sets_are_not_read};
+pub use laws::{bodies_stay_inside, frames_keep_lengths, points_are_trees};
 pub use runner::{Outcome, RunFault, run};
 pub use straight::{Failure, is_straight, run_straight};

@@ -1,12 +1,13 @@
 //! A client with where its points go on.
 ghost use Rattle.std.specs.Prelude.{◌≡◌, length, option_map, slice_get, IfOk};
-ghost use Rattle.client_run.specs.Graph.{ways_at};
+ghost use Rattle.flow_graph.specs.Points.{ways_at};
 ghost use Rattle.client_model.specs.Checked.{seen};
 ghost use Rattle.client_steps.specs.States.{point_at, variable_count};
 
-use crate::graph::Graph;
 use client_model::{CallSite, CheckedClient, Point};
-use std::alloc::{AllocError, Global};
+use cv_base::Memory;
+use flow_graph::{Graph, graph};
+use std::alloc::Global;
 use std::marker::Model;
 
 /// A client and its graph, which contracts see as the client.
@@ -17,11 +18,11 @@ pub(crate) struct Program<'a> {
 }
 
 impl<'a> Model for Program<'a> {
-    ghost use Rattle.std.specs.Prelude.{◌≡◌, map};
-    ghost use Rattle.client_run.specs.Graph.{next_in};
+    ghost use Rattle.std.specs.Prelude.{◌≡◌};
+    ghost use Rattle.flow_graph.specs.Points.{graph_of};
     ghost use Rattle.client_model.specs.Program.{ClientForm};
     ghost use Rattle.client_model.specs.contracts.form.Node as node;
-    ghost use Rattle.client_model.specs.Checked.{procedure_seen};
+    ghost use Rattle.client_model.specs.Checked.{seen};
     ghost use Rattle.std.specs.Coded.{codes};
 
     ghost Value = { ClientForm };
@@ -30,15 +31,15 @@ impl<'a> Model for Program<'a> {
 
     ghost view = { λ p. p.client.now };
 
-    ghost invariant = { λ p. p.graph ≡ map (λ x. next_in (procedure_seen x)) p.client.now.procedures };
+    ghost invariant = { λ p. p.graph ≡ graph_of (seen p.client.now) };
 }
 
 impl<'a> Program<'a> {
     /// That of a client.
-    pub(crate) fn of(alloc: Global, client: &'a CheckedClient) -> Result<Program<'a>, AllocError>
+    pub(crate) fn of(alloc: Global, client: &'a CheckedClient) -> Result<Program<'a>, Memory>
         ensures { IfOk result (λ p. p ≡ client.now) }
     {
-        let graph = Graph::of(alloc, client)?;
+        let graph = graph(alloc, client)?;
         Ok(Program { client, graph })
     }
 

@@ -62,9 +62,7 @@ pub fn run_straight(
 {
     spec.is_kept();
     client.is_kept();
-    let Ok(program) = Program::of(alloc, client) else {
-        return Err(Memory);
-    };
+    let program = Program::of(alloc, client)?;
     // No run takes all of these units: `main` has at most 1,048,577 points, each is begun once at most, and one takes 1,025
     // units at most.
     match run_within(alloc, spec, &program, &[], u32::MAX) {

@@ -1,5 +1,5 @@
 use Rattle.client_run.proofs.Whole.{IsRest}
-use Rattle.client_run.specs.Graph.{exit_at}
+use Rattle.flow_graph.specs.Points.{exit_at}
 use Rattle.client_run.specs.Turns.{measure, place_in}
 use Rattle.client_model.specs.Checked.{seen}
 use Rattle.client_run.proofs.runner.run_within.Given as goal

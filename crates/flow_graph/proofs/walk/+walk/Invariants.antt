@@ -1,7 +1,7 @@
 use Rattle.std.proofs.Common.{◌≡◌, ◌++◌, drop}
 use Rattle.client_model.specs.Ways as told
-use Rattle.client_run.specs.Code.{row, ways_told}
-use Rattle.client_run.proofs.graph.+graph.Given as goal
+use Rattle.flow_graph.specs.Code.{row, ways_told}
+use Rattle.flow_graph.proofs.walk.+walk.Given as goal
 
 -- with those of the statements that are left they are those of all
 abbrev pub invariant-add_all-each : goal.invariant-add_all-each

@@ -1,50 +1,38 @@
-//! Where the points of a client's procedures go on.
-ghost use Rattle.std.specs.Prelude.{◌≡◌, ◌∷◌, ◌++◌, [], ◌≤◌, drop, length, map, option_and_then, slice_get, IfOk, OnOk};
+//! The walk over a client's statements that finds where their points go on.
+ghost use Rattle.std.specs.Prelude.{◌≡◌, ◌∷◌, ◌++◌, [], ◌≤◌, drop, length, map, IfOk, OnOk};
 ghost use Rattle.client_model.specs.Nodes.{tree_of};
 ghost use Rattle.client_model.specs.Ways as told;
-ghost use Rattle.client_model.specs.Checked.{procedure_seen};
-ghost use Rattle.client_run.specs.Graph.{next_in};
-ghost use Rattle.client_run.specs.Code.{row, ways_told};
+ghost use Rattle.client_model.specs.Checked.{procedure_seen, seen};
+ghost use Rattle.flow_graph.specs.Code.{row, ways_told};
+ghost use Rattle.flow_graph.specs.Points.{graph_of, next_in};
 
+use crate::tables::Graph;
 use client_model::{CheckedClient, Node, Procedure};
+use cv_base::Memory;
 use std::alloc::{AllocError, Global};
-use std::marker::Model;
 
-/// By procedure and point, the exits left out: where it goes on, on T and on F. Both are equal where it is no test.
-#[derive(Debug, Drop)]
-pub(crate) struct Graph {
-    next: Vec<Vec<(u32, u32)>>,
+/// The graph of a client: where each point of each procedure goes on. Procedures go by their numbers, the start being 0, and the
+/// points of each from 0 on; the exit is the number after the last point and goes nowhere. `Memory` where there is no memory left.
+pub fn graph(alloc: Global, client: &CheckedClient) -> Result<Graph, Memory>
+    ensures { IfOk result (λ g. g ≡ graph_of (seen client.now)) }
+{
+    match tables_of(alloc, client) {
+        Ok(next) => Ok(Graph::new(next)),
+        Err(_) => Err(Memory),
+    }
 }
 
-impl Model for Graph {
-    ghost use Rattle.std.specs.Prelude.{List, ℕ, map};
-
-    ghost Value = { List (List (ℕ × ℕ)) };
-
-    ghost view = { λ g. map (λ v. v.items) g.next.items };
-}
-
-impl Graph {
-    /// That of a client.
-    pub(crate) fn of(alloc: Global, client: &CheckedClient) -> Result<Graph, AllocError>
-        ensures { IfOk result (λ g. g ≡ map (λ p. next_in (procedure_seen p)) client.now.procedures) }
-    {
-        client.is_kept();
-        let mut next = Vec::new(alloc);
-        'each: for number in 0..client.procedure_count() {
-            let table = next_of(alloc, client.procedure(number))?;
-            next.push(table)?;
-        }
-        Ok(Graph { next })
+/// Where the points of each procedure go on, the exits left out.
+fn tables_of(alloc: Global, client: &CheckedClient) -> Result<Vec<Vec<(u32, u32)>>, AllocError>
+    ensures { IfOk result (λ next. map (λ v. v.items) next.items ≡ graph_of (seen client.now)) }
+{
+    client.is_kept();
+    let mut next = Vec::new(alloc);
+    'each: for number in 0..client.procedure_count() {
+        let table = next_of(alloc, client.procedure(number))?;
+        next.push(table)?;
     }
-
-    /// Where this point of the procedure goes on; its exit goes nowhere.
-    pub(crate) fn ways(&self, procedure: u32, point: u32) -> Option<(u32, u32)>
-        ensures { result ≡ option_and_then (λ t. slice_get t point) (slice_get self.now procedure) }
-    {
-        let table = self.next.get(procedure as usize)?;
-        table.get(point as usize).copied()
-    }
+    Ok(next)
 }
 
 /// What follows statements, and where a `break`, a `continue` and a `return` in them go.
@@ -113,7 +101,7 @@ fn put(next: &mut Vec<(u32, u32)>, on: u32) -> Result<(), AllocError>
 }
 
 /// Adds where the points of these statements go on.
-#[cycle(graph)]
+#[cycle(walk)]
 fn add_all(nodes: &[Node], ways: Ways, next: &mut Vec<(u32, u32)>) -> Result<(), AllocError>
     ensures { OnOk result (next.new.items ≡ next.old.items ++ told.ways_of (ways_told ways) (row nodes.now)) }
 {
@@ -125,7 +113,7 @@ fn add_all(nodes: &[Node], ways: Ways, next: &mut Vec<(u32, u32)>) -> Result<(),
 }
 
 /// Adds where the point of this statement goes on, and those of the statements that it holds.
-#[cycle(graph)]
+#[cycle(walk)]
 fn add(node: &Node, ways: Ways, next: &mut Vec<(u32, u32)>) -> Result<(), AllocError>
     ensures { OnOk result (next.new.items ≡ next.old.items ++ told.ways_in (ways_told ways) (tree_of node.now)) }
 {
