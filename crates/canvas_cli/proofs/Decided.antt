@@ -2,7 +2,6 @@
 use Rattle.std.proofs.Common.{◌≡◌, ℕ, ◌≤◌, List, None, length, refl, subst}
 use Rattle.std.specs.Prelude.{Err, Ok, Vec}
 use Rattle.std.specs.declared.alloc.Global.{Global}
-use Rattle.canvas_cli.proofs.Seen.{answer_whole}
 use Rattle.canvas_cli.proofs.Trees.{client_readable}
 use Rattle.canvas_cli.specs.Readings.{AnswersFault, Breaks, BreaksClient, IsJudged, IsDerivation, IsRead, IsTaken, Refuses, RefusesClient, unread}
 use Rattle.canvas_cli.specs.Refusals.{IsTree}
@@ -25,7 +24,7 @@ use Rattle.client_model.specs.Program as told
 use Rattle.client_model.specs.declared.tree.Client.{Client as Written}
 use Rattle.client_parser.specs.Answers.{ClientAnswers}
 use Rattle.client_model.proofs.Least.{none_is_well_formed}
-use Rattle.client_model.specs.Checked.{seen, without_sets}
+use Rattle.client_model.specs.Checked.{seen}
 use Rattle.client_model.specs.CheckedForm as client
 use Rattle.client_model.specs.CheckedForm.{ClientForm}
 use Rattle.client_model.specs.Fits.{Fits}
@@ -136,22 +135,14 @@ specified command spec text form Memory is verdict = tt
 specified command spec text form a is verdict = (form, is, verdict)
 
 -- the answer for a checked client is what its text decides
-verdict_of : (command : Command) (form : Form) (text : List ℕ) (c : ClientForm) (a : Answer) → Fits form c → IsClient form text c
-    → IsJudged command form (without_sets c) a → ClientVerdict command form text a
-verdict_of Certify form text c (Refused Client line) fits is answer = absurd answer
-verdict_of (Run choices) form text c (Refused Client line) fits is (o, run, told) = absurd told
-verdict_of command form text c Memory fits is answer = tt
-verdict_of command form text c a fits is answer = (c, is, answer_whole command form c a fits answer)
+verdict_of : (command : Command) (form : Form) (text : List ℕ) (c : ClientForm) (a : Answer) → IsClient form text c → IsJudged command form c a
+    → ClientVerdict command form text a
+verdict_of Certify form text c (Refused Client line) is answer = absurd answer
+verdict_of (Run choices) form text c (Refused Client line) is (o, run, told) = absurd told
+verdict_of command form text c Memory is answer = tt
+verdict_of command form text c a is answer = (c, is, answer)
 
 pub judged : (command : Command) (form : Form) (text : List ℕ) (c : told.ClientForm) (a : Answer) → IsRead form text c → IsJudged command form (seen c) a
     → ClientVerdict command form text a
 judged command form text c a read answer =
-    let whole : ClientForm = client.form_of form (client_of read.tree) in
-    let fits : Fits form whole = record {
-      client = client_of read.tree;
-      well_formed = none_is_well_formed form (client_of read.tree) read.is.well_formed;
-      is =
-          refl;
-    } in
-    let is : IsClient form text whole = record { tree = read.tree; is = read.is; form_is = refl } in
-    verdict_of command form text whole a fits is (subst (λ x. IsJudged command form x a) read.form_is answer)
+    verdict_of command form text (seen c) a (record { tree = read.tree; is = read.is; form_is = read.form_is }) answer

@@ -15,7 +15,7 @@ use Rattle.canvas_cli.specs.declared.command.Command.{Command}
 use Rattle.access_paths.specs.declared.term.Var.{Var}
 use Rattle.client_model.specs.Program as told
 use Rattle.client_model.specs.declared.tree.Client.{Client as Written}
-use Rattle.client_model.specs.Checked.{IsFitting, seen, without_sets}
+use Rattle.client_model.specs.Checked.{IsFitting, seen}
 use Rattle.client_model.specs.CheckedForm as checked
 use Rattle.client_model.specs.CheckedForm.{ClientForm}
 use Rattle.client_model.specs.Faults as client
@@ -60,15 +60,15 @@ BreaksClient form tree (Refused (Broken (language.Client rule) place)) =
 BreaksClient form tree (Refused refusal) = ⊥
 BreaksClient form tree Memory = Unit {0}
 
--- a client that breaks no rule of this specification, and its checked form, but for the names that are set
+-- a client that breaks no rule of this specification, and its checked form
 abbrev pub IsTaken : Form → Client → told.ClientForm → Type 0
 IsTaken form client c = IsCheckedAs form client c × IsFitting form c
 
--- the text is a client that is well-formed for this specification, and this is its checked form, but for the names that are set
+-- the text is a client that is well-formed for this specification, and this is its checked form
 pub record IsRead (form : Form) (text : List ℕ) (c : told.ClientForm) : Type 0 where
   pub tree : Written
   pub is : IsClientTree form text tree
-  pub form_is : seen c ≡ without_sets (checked.form_of form (client_of tree))
+  pub form_is : seen c ≡ checked.form_of form (client_of tree)
   pub fits : IsFitting form c
 
 -- the answer says so of the text of this role

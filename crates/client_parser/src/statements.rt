@@ -3,7 +3,11 @@
 ghost use Rattle.std.specs.Prelude.{◌≡◌, ◌<◌, ◌≤◌, length, IfOk, IsSome};
 ghost use Rattle.easl_model.specs.declared.tree.Sort.TheVariants as sort;
 ghost use Rattle.cv_read.specs.Read.{Gives, begins, items_at};
-ghost use Rattle.client_parser.specs.Reading.{set_at, declare_set_at, declare_behind, declare_at, opaque_declare_at, assign_at, done_by, action_behind, new_behind, used_behind, stmt_behind, named_stmt_at, typed_stmt_at, simple_at, test_at, guard_at, call_test_at, end_if_by, if_by, while_by, no_if_by, stmt_starts, stmts_at, block_at, stmt_at, maybe_stmt_at, ended_by, no_while_at, no_break_at, no_continue_at, return_stmt_behind, return_behind, value_return_at};
+ghost use Rattle.client_parser.specs.Reading.{set_at, declare_set_at, declare_behind, declare_at, opaque_declare_at, assign_at, done_by, action_behind};
+ghost use Rattle.client_parser.specs.Reading.{new_behind, used_behind, stmt_behind, named_stmt_at, typed_stmt_at, simple_at, test_at, guard_at};
+ghost use Rattle.client_parser.specs.Reading.{call_test_at, end_if_by, if_by, while_by, no_if_by, stmt_starts, stmts_at, block_at, stmt_at};
+ghost use Rattle.client_parser.specs.Reading.{maybe_stmt_at, ended_by, no_while_at, no_break_at, no_continue_at, return_stmt_behind, return_behind};
+ghost use Rattle.client_parser.specs.Reading.{value_return_at};
 
 use crate::values::{arg, call_value, component, component_value, new_value, rhs};
 use client_model::{Return, Rhs, Stmt, Test};

@@ -1,7 +1,8 @@
 //! Arguments, calls and values.
 ghost use Rattle.std.specs.Prelude.{◌≡◌, ◌<◌, ◌≤◌, length, IfOk, IsSome};
 ghost use Rattle.cv_read.specs.Read.{Gives, begins, commas_at, more_at, next_at, listed_at};
-ghost use Rattle.client_parser.specs.Reading.{arg_starts, arg_at, args_at, component_behind, component_at, new_behind, component_value, call_value, literal_value_at, initial_behind, rhs_behind, named_by, plain_by, initial_at, rhs_at};
+ghost use Rattle.client_parser.specs.Reading.{arg_starts, arg_at, args_at, component_behind, component_at, new_behind, component_value, call_value};
+ghost use Rattle.client_parser.specs.Reading.{literal_value_at, initial_behind, rhs_behind, named_by, plain_by, initial_at, rhs_at};
 
 use client_model::{Call, Component, New, Rhs};
 use cv_read::{
