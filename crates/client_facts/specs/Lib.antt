@@ -1,0 +1,15 @@
+pub mod Calls
+pub mod Choices
+pub mod Counts
+pub mod FactSets
+pub mod FactSlots
+pub mod Facts
+pub mod Flows
+pub mod Held
+pub mod NameLists
+pub mod Names
+pub mod Over
+pub mod Same
+pub mod Setting
+pub mod Standing
+pub mod States
