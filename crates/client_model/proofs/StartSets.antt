@@ -45,7 +45,8 @@ statics_numbered form n (x ∷ xs) =
     let next : suc n ≡ n + 1 = omega arith in
     ap (λ ks. static_code n ∷ ks) (statics_numbered form (suc n) xs ∙ ap (λ k. map static_code (range_with_len k (length (statics_from form (suc n) xs)))) next)
 
-as_many_statics : (form : Form) (n : ℕ) (xs : List Static) → length (statics_from form n xs) ≡ length xs
+-- as many as were written
+pub as_many_statics : (form : Form) (n : ℕ) (xs : List Static) → length (statics_from form n xs) ≡ length xs
 as_many_statics form n [] = refl
 as_many_statics form n (x ∷ xs) = ap suc (as_many_statics form (suc n) xs)
 

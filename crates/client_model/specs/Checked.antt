@@ -1,5 +1,5 @@
 -- What every checked client keeps.
-use Rattle.std.specs.Prelude.{◌≤◌, All, length, map}
+use Rattle.std.specs.Prelude.{◌+◌, ◌≤◌, All, length, map}
 use Rattle.client_model.specs.Nodes.{tree_of, trees}
 use Rattle.client_model.specs.Program as told
 use Rattle.client_model.specs.declared.form.Procedure.{Procedure}
@@ -33,9 +33,11 @@ pub record IsCheckedClient (c : told.ClientForm) : Type 0 where
   pub specification : IsChecked form
   pub fits : IsFitting form c
 
--- there are no more procedures, points and calls than their numbers can say
+-- there are no more statics, procedures, points and calls than their numbers can say, and a procedure sees few names: the statics and its
+-- parameters and locals
 pub record IsInRange (c : told.ClientForm) : Type 0 where
   pub few_statics : length c.statics ≤ 1048576
   pub few_procedures : length c.procedures ≤ 1048577
   pub few_points : All (λ p. length p.points ≤ 1048577) c.procedures
+  pub few_names : All (λ p. length c.statics + length p.variables ≤ 524288) c.procedures
   pub few_calls : length c.calls ≤ 1048576
