@@ -1,5 +1,6 @@
 -- Lists of name codes by class, as they grow.
-use Rattle.std.proofs.Common.{◌≡◌, ◌∙◌, ℕ, zero, suc, ◌+◌, ◌<◌, ◌≤◌, Bool, true, false, cond, ◌⊎◌, inl, inr, ⊎_elim, List, [], ◌∷◌, ◌++◌, drop, length, Contains, refl, sym, ap, subst, arith, append-nil, append_assoc, get_or}
+use Rattle.std.proofs.Common.{◌≡◌, ◌∙◌, ℕ, zero, suc, ◌+◌, ◌<◌, ◌≤◌, Bool, true, false, cond, ◌⊎◌, inl, inr, ⊎_elim, List, [], ◌∷◌, ◌++◌, drop, length}
+use Rattle.std.proofs.Common.{Contains, refl, sym, ap, subst, arith, append-nil, append_assoc, get_or}
 use Rattle.std.specs.Prelude.{◌==◌, Option, Some, option_map, slice_get, slice_set, unwrap_or}
 use Rattle.std.specs.Global.{Vec}
 use Rattle.std.proofs.Math.Nat.{eq-or-lt_of_le}
