@@ -1,0 +1,11 @@
+pub mod Adding
+pub mod Choosing
+pub mod Copying
+pub mod Entries
+pub mod Following
+pub mod Longer
+pub mod Naming
+pub mod Nexts
+pub mod Putting
+pub mod Tests
+pub mod Zips

@@ -1,0 +1,5 @@
+pub mod Adding
+pub mod Asking
+pub mod Lists
+pub mod Put
+pub mod Steps
