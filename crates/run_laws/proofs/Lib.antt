@@ -1,0 +1,4 @@
+mod Back
+mod Exits
+mod Forth
+pub mod Whole
