@@ -1,5 +1,5 @@
 -- Walks: from the entry of a procedure to one of its points, with a walk of the called procedure at each procedure call.
-use Rattle.std.specs.Prelude.{◌≡◌, ℕ, suc, ◌+◌, Bool, List, [], ◌∷◌, ◌++◌, Option, Some}
+use Rattle.std.specs.Prelude.{◌≡◌, ℕ, Bool, List, [], ◌∷◌, ◌++◌, Option, Some}
 use Rattle.client_facts.specs.Calls.{Enters, Returns}
 use Rattle.client_facts.specs.Choices.{Choice, IsChoice}
 use Rattle.client_facts.specs.Facts.{IsFact}
@@ -16,12 +16,6 @@ pub data Walk (g : Setting) : ℕ → ℕ → Type 0 where
   begin : (p : ℕ) → Walk g p 0
   step : (p n m : ℕ) (b : Bool) → Walk g p n → IsStep g p n b m → Walk g p m
   call : (p n m : ℕ) (k : Call) → Walk g p n → IsCall g p n k m → Walk g k.callee (exit_of g k.callee) → Walk g p m
-
--- how many steps a walk has, those of its inner walks among them
-abbrev pub size : (g : Setting) (p n : ℕ) → Walk g p n → ℕ
-size g p n (begin q) = 0
-size g p n (step q l m b w is) = suc (size g q l w)
-size g p n (call q l m k w is inner) = suc (size g q l w + size g k.callee (exit_of g k.callee) inner)
 
 -- the fact e after the procedure call follows from d before it, under one slot choice, by what follows inside
 pub record FollowsCall (g : Setting) (p n : ℕ) (k : Call) (inside : Fact → Fact → Type 0) (d e : Fact) : Type 0 where
