@@ -1,0 +1,3 @@
+pub mod Alarms
+mod Ends
+pub mod Paths
