@@ -1,0 +1,9 @@
+pub mod Gifts
+pub mod Needs
+pub mod Matches
+pub mod Products
+pub mod Offered
+pub mod Finding
+pub mod Trying
+pub mod Crossed
+pub mod Behind
