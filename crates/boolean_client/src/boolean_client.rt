@@ -99,6 +99,13 @@ impl<'a> BooleanClient<'a> {
     ghost use Rattle.client_model.specs.Checked.{seen};
     ghost use Rattle.flow_graph.specs.Points.{graph_of};
 
+    /// The four values that it was made from.
+    pub fn setting(&self) -> &Setting<'a>
+        ensures { result.now ≡ self.now }
+    {
+        &self.setting
+    }
+
     /// The specification.
     pub fn spec(&self) -> &'a CheckedSpec
         ensures { result.now ≡ self.now.form }
