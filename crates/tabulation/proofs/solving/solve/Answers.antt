@@ -1,0 +1,12 @@
+use Rattle.std.proofs.Common.{ap, arith, length}
+use Rattle.client_facts.specs.Held.{setting}
+use Rattle.tabulation.proofs.Begun.{exact, is_least}
+use Rattle.tabulation.proofs.solving.solve.Goals as goal
+
+pub returns-clause-edges : goal.returns-clause-edges
+returns-clause-edges g c =
+    exact (setting c.args.boolean.now) c.each.solution c.each.at c.each.invariant.so_far (omega (arith, ap length c.edges.ensures.value))
+
+pub returns-clause-least : goal.returns-clause-least
+returns-clause-least g c =
+    is_least (setting c.args.boolean.now) c.each.solution c.each.at c.each.invariant.so_far (omega (arith, ap length c.edges.ensures.value))

@@ -1,0 +1,4 @@
+pub mod Extended
+pub mod Orders
+pub mod SoFar
+pub mod Successors
