@@ -25,8 +25,7 @@ module _ (g : Setting) (edges : List Edge) (at : ℕ) (x : Edge) (h : at < lengt
   here = among_last edges at x h is
 
   sound : (y : Edge) → Contains d y → IsGivenBy g known y
-  sound y has = ⊎_elim (λ in_c. ⊎_elim (λ in_b. ⊎_elim (λ in_a. none in_a) (λ s. gives_step g known x y here s) (steps.only y in_b))
-      (λ e. gives_entry g known x y here e) (entries.only y in_c)) back (returns.only y has)
+  sound y has = ⊎_elim (λ in_c. ⊎_elim (λ in_b. ⊎_elim (λ in_a. none in_a) (λ s. gives_step g known x y here s) (steps.only y in_b)) (λ e. gives_entry g known x y here e) (entries.only y in_c)) back (returns.only y has)
     where
       none : Contains a y → IsGivenBy g known y
       none has_none = let in_none : Contains [] y = subst (λ l. Contains l y) start has_none in absurd (omega (arith, in_none.1))
@@ -49,8 +48,7 @@ module _ (g : Setting) (edges : List Edge) (at : ℕ) (x : Edge) (h : at < lengt
 
   complete : (y : Edge) → IsGivenBy g known y → IsGivenBy g (Contains (take at edges)) y ⊎ Contains d y
   complete y (rules.steps p n m b' d' e f before step follows fact) =
-      ⊎_elim (λ old. inl (rules.steps p n m b' d' e f old step follows fact))
-      (λ this. inr (in_steps (edge p d' m f) (subst (λ z. IsStepped g z (edge p d' m f)) this stepped)))
+      ⊎_elim (λ old. inl (rules.steps p n m b' d' e f old step follows fact)) (λ this. inr (in_steps (edge p d' m f) (subst (λ z. IsStepped g z (edge p d' m f)) this stepped)))
       (cases (edge p d' n e) before)
     where
       stepped : IsStepped g (edge p d' n e) (edge p d' m f)
@@ -70,8 +68,7 @@ module _ (g : Setting) (edges : List Edge) (at : ℕ) (x : Edge) (h : at < lengt
       entered : IsEntered g (edge p d' n e) (edge k.callee f 0 f)
       entered = record { call = k; behind = m; there = there; fact = f; enters = inr enters; is = refl }
   complete y (rules.returns p n m k d' e f o r before there exit returns_at fact) =
-      ⊎_elim (λ old. ⊎_elim (λ early. inl (rules.returns p n m k d' e f o r old there early returns_at fact)) (λ this. inr (from_exit this))
-      (cases (edge k.callee f (exit_of g k.callee) o) exit))
+      ⊎_elim (λ old. ⊎_elim (λ early. inl (rules.returns p n m k d' e f o r old there early returns_at fact)) (λ this. inr (from_exit this)) (cases (edge k.callee f (exit_of g k.callee) o) exit))
       (λ this. inr (from_call this))
       (cases (edge p d' n e) before)
     where

@@ -1,6 +1,5 @@
 -- How far the edges are found.
-use Rattle.std.proofs.Common.{◌≡◌, ◌≢◌, ℕ, zero, suc, ◌+◌, ◌-◌, ◌<◌, ◌≤◌, ◌⊎◌, ◌↔◌, inl, inr, ⊎_elim, List, [], ◌∷◌, ◌++◌, length, take, get_or, All}
-use Rattle.std.proofs.Common.{AllPairs, Contains, Some, slice_get, arith, refl, sym, ap, subst, ◌∙◌, length-append, take_all, get_or-append-add}
+use Rattle.std.proofs.Common.{◌≡◌, ◌≢◌, ℕ, zero, suc, ◌+◌, ◌-◌, ◌<◌, ◌≤◌, ◌⊎◌, ◌↔◌, inl, inr, ⊎_elim, List, [], ◌∷◌, ◌++◌, length, take, get_or, All, AllPairs, Contains, Some, slice_get, arith, refl, sym, ap, subst, ◌∙◌, length-append, take_all, get_or-append-add}
 use Rattle.std.proofs.Math.ListN.{get_or-append}
 use Rattle.std.proofs.lemmas.List.{take-append-le}
 use Rattle.std.proofs.lemmas.List.Elements.{Contains-append_left}
@@ -16,6 +15,10 @@ use Rattle.indexmap.specs.IndexSet.{insert_all}
 use Rattle.tabulation.proofs.Contained.{among_all, among_more, among_none}
 use Rattle.tabulation.proofs.Gives.{edge_given, given_more, has_edge, none_given}
 use Rattle.tabulation.proofs.Inserted.{equals, itself}
+use Rattle.tabulation.proofs.Noted.{noted_grown}
+use Rattle.tabulation.specs.Indexed.{AreNoted}
+use Rattle.tabulation.specs.Tables.{PlaceLists}
+use Rattle.tabulation.specs.declared.table.Context.{Context}
 use Rattle.tabulation.specs.Orders.{IsInOrder}
 use Rattle.tabulation.specs.SoFar.{IsSoFar}
 use Rattle.tabulation.specs.Successors.{AreSuccessors}
@@ -91,8 +94,7 @@ module _ (g : Setting) (edges found : List Edge) (at : ℕ) (h : at < length edg
       first =
           let below : 0 < length edges = omega (arith, h) in
           slice_get-get_or new 0 first_edge (omega (arith, longer, below))
-          ∙ ap Some (ap (λ l. get_or l 0 first_edge) is ∙ get_or-append edges more first_edge 0 below ∙ get_or_from_slice_get edges 0 first_edge
-          first_edge so.order.first);
+          ∙ ap Some (ap (λ l. get_or l 0 first_edge) is ∙ get_or-append edges more first_edge 0 below ∙ get_or_from_slice_get edges 0 first_edge first_edge so.order.first);
       later = later;
     }
 
@@ -124,6 +126,12 @@ module _ (g : Setting) (edges found : List Edge) (at : ℕ) (h : at < length edg
 
   pub as_many : (new : List Edge) → new ≡ insert_all equals edges found → length edges ≤ length new
   as_many new is = grown new is
+
+  pub noted : (R : Edge → Context → Type 0) (new : List Edge) → new ≡ insert_all equals edges found → (t : PlaceLists) → AreNoted R edges (at + 1) t →
+      AreNoted R new (at + 1) t
+  noted R new is t a =
+      let w = news equals itself edges found in
+      noted_grown R edges new (at + 1) t (λ j x below there. early w.more new (is ∙ w.whole) w.given j x (omega (arith, below, h)) there) a
 
 -- where all edges were asked
 module _ (g : Setting) (edges : List Edge) (at : ℕ) (so : IsSoFar g edges at) (all : length edges ≤ at) where

@@ -1,6 +1,5 @@
 -- The first elements of a list.
-use Rattle.std.proofs.Common.{◌≡◌, ℕ, ◌+◌, ◌<◌, ◌≤◌, ◌⊎◌, inr, inl, ⊎_elim, List, [], ◌∷◌, ◌++◌, length, take, drop, get_or, Contains, arith, ap, sym}
-use Rattle.std.proofs.Common.{subst, ◌∙◌, get_or-take, length-take, length-take-le, take-append-drop}
+use Rattle.std.proofs.Common.{◌≡◌, ℕ, ◌+◌, ◌<◌, ◌≤◌, ◌⊎◌, inr, inl, ⊎_elim, List, [], ◌∷◌, ◌++◌, length, take, drop, get_or, Contains, arith, ap, sym, subst, ◌∙◌, get_or-take, length-take, length-take-le, take-append-drop}
 use Rattle.std.proofs.lemmas.List.{take_more}
 use Rattle.std.proofs.lemmas.List.Elements.{Contains-append_cases, Contains-append_left, Contains-append_right, Contains-get_or}
 use Rattle.client_facts.proofs.Inserted.{single}

@@ -10,7 +10,7 @@ use Rattle.client_walks.specs.declared.edge.Edge.{Edge}
 use Rattle.tabulation.proofs.Extended.{both, nothing, pushed, same}
 use Rattle.tabulation.proofs.Ways.{one_behind, one_call, one_step}
 use Rattle.tabulation.specs.Extended.{IsExtended, IsOfOne}
-use Rattle.tabulation.specs.Successors.{IsCallTo, IsEntered, IsEntry, IsNext, IsReturned, IsReturnedBy, IsStepped, IsTo}
+use Rattle.tabulation.specs.Successors.{IsCallTo, IsEntered, IsEntry, IsNext, IsReturned, IsStepped, IsTo}
 
 -- the edge with one fact
 pub to_one : (g : Setting) (x : Edge) (m : ℕ) (f : Fact) (a c : List Edge) → IsFact g x.procedure m f → c ≡ a ++ edge x.procedure x.entry m f ∷ [] →
@@ -154,8 +154,3 @@ module _ (g : Setting) (x z : Edge) (c m : ℕ) (k : IsCallTo g x.procedure x.po
   -- from a point that is not the exit
   pub other_point : (a : List Edge) → (z.point ≡ exit_of g c → ⊥) → IsExtended (IsReturned g x z) a a
   other_point a never = nothing (IsReturned g x z) a (λ y r. never (r.exit ∙ ap (exit_of g) (callee_of y r)))
-
--- either way
-pub either : (g : Setting) (x z : Edge) (a b c : List Edge) → IsExtended (IsReturned g x z) a b → IsExtended (IsReturned g z x) b c →
-    IsExtended (IsReturnedBy g x z) a c
-either g x z a b c one other = both (IsReturned g x z) (IsReturned g z x) a b c one other

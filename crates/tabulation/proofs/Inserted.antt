@@ -1,6 +1,5 @@
 -- Lists of different edges with more of them.
-use Rattle.std.proofs.Common.{◌≡◌, Bool, true, false, cond, ◌&&◌, List, [], ◌∷◌, ◌++◌, length, Contains, arith, refl, sym, ap, subst, ◌∙◌, append-nil}
-use Rattle.std.proofs.Common.{append_assoc, length-append}
+use Rattle.std.proofs.Common.{◌≡◌, Bool, true, false, cond, ◌&&◌, List, [], ◌∷◌, ◌++◌, length, Contains, arith, refl, sym, ap, subst, ◌∙◌, append-nil, append_assoc, length-append}
 use Rattle.std.specs.Prelude.{nat_eq}
 use Rattle.std.proofs.Math.ListN.{get_or-append}
 use Rattle.std.proofs.Math.Seq.{get_or-append_seam}
@@ -22,10 +21,10 @@ use Rattle.tabulation.specs.Orders.{AllDiffer}
 abbrev pub equals : Edge → Edge → Bool
 equals = (edges.ghosts).eq
 
-both : (s t : Bool) → s ≡ true → t ≡ true → (s && t) ≡ true
+pub both : (s t : Bool) → s ≡ true → t ≡ true → (s && t) ≡ true
 both s t first second = λ i. first i && second i
 
-itself_fact : (f : Fact) → (facts.ghosts).eq f f ≡ true
+pub itself_fact : (f : Fact) → (facts.ghosts).eq f f ≡ true
 itself_fact Always = refl
 itself_fact (Of family args) =
     both (nat_eq family family) (pointwise nat_eq args args) (nat_eq_equiv.refl family) (nat_list_eq_equiv.refl args)

@@ -5,4 +5,7 @@ pub mod Extended
 pub mod Followed
 pub mod Gives
 pub mod Inserted
+pub mod Reached
+pub mod Noted
+pub mod Tabled
 pub mod Ways

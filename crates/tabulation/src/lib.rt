@@ -2,10 +2,13 @@
 #![tactic(auto)]
 
 mod following;
+mod index;
 mod places;
+mod returning;
 mod solution;
 mod solving;
 mod successors;
+mod table;
 
 pub use solution::Solution;
 pub use solving::solve;

@@ -3,11 +3,14 @@ ghost use Rattle.std.specs.Prelude.{◌≡◌, ◌≢◌, ◌↔◌, ◌+◌, �
 ghost use Rattle.client_facts.specs.Held as held;
 ghost use Rattle.client_walks.specs.Edges.{IsEdge, IsLeastList};
 ghost use Rattle.client_walks.specs.declared.edge.Edge as told;
+ghost use Rattle.tabulation.specs.Indexed.{AreNoted, IsCallerOf, IsExitOf};
 ghost use Rattle.tabulation.specs.Orders.{IsInOrder};
 ghost use Rattle.tabulation.specs.SoFar.{IsSoFar};
 
+use crate::index::{note_caller, note_exit};
 use crate::solution::Solution;
 use crate::successors::successors;
+use crate::table::Table;
 use boolean_client::BooleanClient;
 use client_facts::Fact;
 use client_walks::Edge;
@@ -31,10 +34,12 @@ pub fn solve<L: Ledger>(
     ensures steps { IfOk result (λ solution. steps.new ≡ steps.old + length solution) }
 {
     let mut solution = begun(alloc, boolean)?;
+    let mut exits = Table::new(alloc);
+    let mut callers = Table::new(alloc);
     let mut at = 0;
     'each: while at < solution.edges().len() {
         steps.tick();
-        ask(alloc, boolean, &mut solution, at)?;
+        ask(alloc, boolean, &mut solution, &mut exits, &mut callers, at)?;
         at += 1;
     }
     Ok(solution)
@@ -64,14 +69,22 @@ fn ask(
     alloc: Global,
     boolean: &BooleanClient<'_>,
     solution: &mut Solution,
+    exits: &mut Table,
+    callers: &mut Table,
     at: usize,
 ) -> Result<(), Memory>
     requires at { at < length solution.old }
     requires so_far { IsSoFar (held.setting boolean.now) solution.old at }
+    requires left { AreNoted (IsExitOf (held.setting boolean.now)) solution.old at exits.old }
+    requires called { AreNoted (IsCallerOf (held.setting boolean.now)) solution.old at callers.old }
     ensures so_far { OnOk result (IsSoFar (held.setting boolean.now) solution.new (at + 1)) }
+    ensures left { OnOk result (AreNoted (IsExitOf (held.setting boolean.now)) solution.new (at + 1) exits.new) }
+    ensures called { OnOk result (AreNoted (IsCallerOf (held.setting boolean.now)) solution.new (at + 1) callers.new) }
     ensures grown { OnOk result (length solution.old ≤ length solution.new) }
 {
-    let found = successors(alloc, boolean, solution.edges(), at)?;
+    note_exit(alloc, boolean, exits, solution.edges(), at)?;
+    note_caller(alloc, boolean, callers, solution.edges(), at)?;
+    let found = successors(alloc, boolean, exits, callers, solution.edges(), at)?;
     solution.add_all(found)?;
     Ok(())
 }
